@@ -1,0 +1,78 @@
+-- Searches over lists that are joined or mapped, and tests over the numbers below a bound.
+-- Assumes nothing.
+use mathlib.Core.Path.{_≡_, refl, sym, ap, _∙_}
+use mathlib.Core.Bool.{Bool, true, false, cond, _&&_, _||_, or-assoc}
+use mathlib.Core.List.{List, [], _∷_, _++_, map}
+use Prim.Native.Nat.{ℕ, zero, suc, _+_, _≤_, _<_}
+use lib.ListN.{length, getD, drop, drop-of-length-le}
+use lib.Seq.{drop-cons}
+use native.Mathlib.Numerals.{add-one}
+use mathlib.Core.Logic.{⊎-elim}
+use native.Mathlib.Omega.{arith}
+use Rattle.lists.proofs.Tests.{known, clash, not-true-false, and-left, and-right, and-both, or-none, or-left, or-right, or-cases}
+use Rattle.lists.proofs.Below.{below-suc}
+use Rattle.lists.specs.Search.{any, firstOf, everyBelow}
+
+module _ {A : Type 0} where
+  pub any-append : (f : A → Bool) (xs ys : List A) → any f (xs ++ ys) ≡ (any f xs || any f ys)
+  any-append f [] ys = refl
+  any-append f (x ∷ xs) ys = ap (λ (b : Bool). f x || b) (any-append f xs ys) ∙ sym (or-assoc (f x) (any f xs) (any f ys))
+
+  -- a test that holds at a place, and a place where it holds
+  pub any-at : (f : A → Bool) (d : A) (xs : List A) (i : ℕ) → i < length xs → f (getD xs i d) ≡ true → any f xs ≡ true
+  any-at f d [] i h t = absurd (omega arith)
+  any-at f d (x ∷ xs) zero h t = or-left (f x) (any f xs) t
+  any-at f d (x ∷ xs) (suc i) h t = or-right (f x) (any f xs) (any-at f d xs i (omega arith) t)
+
+  pub any-found : (f : A → Bool) (d : A) (xs : List A) → any f xs ≡ true → (i : ℕ) × (i < length xs) × (f (getD xs i d) ≡ true)
+  any-found f d [] e = absurd (clash e refl)
+  any-found f d (x ∷ xs) e =
+      ⊎-elim (λ (t : f x ≡ true). (0, omega arith, t))
+      (λ (t : any f xs ≡ true). let (i, h, t′) = any-found f d xs t in (suc i, omega arith, t′))
+      (or-cases (f x) (any f xs) e)
+
+  -- from a place on: it holds there, it does not, and at the end
+  pub any-here : (f : A → Bool) (d : A) (xs : List A) (i : ℕ) → i < length xs → f (getD xs i d) ≡ true → any f (drop i xs) ≡ true
+  any-here f d xs i h t = rw (drop-cons xs i d h, t)
+
+  pub any-later : (f : A → Bool) (d : A) (xs : List A) (i : ℕ) → i < length xs → f (getD xs i d) ≡ false → any f (drop i xs) ≡ any f (drop (i + 1) xs)
+  any-later f d xs i h e = rw (add-one i, drop-cons xs i d h, e)
+
+  pub any-end : (f : A → Bool) (xs : List A) (i : ℕ) → length xs ≤ i → any f (drop i xs) ≡ false
+  any-end f xs i h = rw (drop-of-length-le xs h)
+
+  -- the first of two lists joined: of the left one where that has any
+  pub first-append-some : (f : A → Bool) (d : A) (xs ys : List A) → any f xs ≡ true → firstOf f d (xs ++ ys) ≡ firstOf f d xs
+  first-append-some f d [] ys h = absurd (clash h refl)
+  first-append-some f d (x ∷ xs) ys h =
+      ⊎-elim (λ t. rw t) (λ e. rw e (first-append-some f d xs ys (rw e at h))) (known (f x))
+
+  pub first-append-none : (f : A → Bool) (d : A) (xs ys : List A) → any f xs ≡ false → firstOf f d (xs ++ ys) ≡ firstOf f d ys
+  first-append-none f d [] ys h = refl
+  first-append-none f d (x ∷ xs) ys h =
+      let (e, rest) = or-none (f x) (any f xs) h in rw e (first-append-none f d xs ys rest)
+
+module _ {A B : Type 0} where
+  pub any-map : (f : B → Bool) (g : A → B) (xs : List A) → any f (map g xs) ≡ any (λ (x : A). f (g x)) xs
+  any-map f g [] = refl
+  any-map f g (x ∷ xs) = ap (λ (b : Bool). f (g x) || b) (any-map f g xs)
+
+  pub first-map : (f : B → Bool) (g : A → B) (d : A) (e : B) (xs : List A) → any (λ (x : A). f (g x)) xs ≡ true
+      → firstOf f e (map g xs) ≡ g (firstOf (λ (x : A). f (g x)) d xs)
+  first-map f g d e [] h = absurd (clash h refl)
+  first-map f g d e (x ∷ xs) h =
+      ⊎-elim (λ t. rw t) (λ n. rw n (first-map f g d e xs (rw n at h))) (known (f (g x)))
+
+-- ---- numbers below a bound
+
+pub every-true : (f : ℕ → Bool) (n : ℕ) → ((i : ℕ) → i < n → f i ≡ true) → everyBelow f n ≡ true
+every-true f zero h = refl
+every-true f (suc n) h = and-both (every-true f n (λ i p. h i (omega arith))) (h n (omega arith))
+
+pub every-at : (f : ℕ → Bool) (n : ℕ) → everyBelow f n ≡ true → (i : ℕ) → i < n → f i ≡ true
+every-at f zero e i h = absurd (omega arith)
+every-at f (suc n) e i h =
+    below-suc n (every-at f n (and-left (everyBelow f n) (f n) e)) (and-right (everyBelow f n) (f n) e) i h
+
+pub every-false : (f : ℕ → Bool) (n i : ℕ) → i < n → f i ≡ false → everyBelow f n ≡ false
+every-false f n i h e = not-true-false (everyBelow f n) (λ t. clash (every-at f n t i h) e)

@@ -1,0 +1,1 @@
+// Lists: only definitions and laws.

@@ -1,0 +1,16 @@
+pub mod CommonParts
+pub mod Families
+pub mod Sorted
+pub mod Thinned
+pub mod Widths
+pub mod LimitLaws
+pub mod CommonMember
+pub mod Lacking
+pub mod Minimality
+pub mod Accepts
+pub mod Needing
+pub mod Lowering
+pub mod Evenness
+pub mod Cleaning
+pub mod Taking
+pub mod Judging

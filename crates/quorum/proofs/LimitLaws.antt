@@ -1,0 +1,67 @@
+-- What the limits 1 to 4 say of a table, in numbers.
+-- Assumes nothing.
+use mathlib.Core.Path.{_≡_, refl, sym, ap, _∙_}
+use mathlib.Core.Bool.{Bool, true, false, cond, not, _&&_, _||_}
+use mathlib.Core.List.{List, [], _∷_}
+use mathlib.Core.Logic.{⊎-elim, by-cases}
+use Prim.Native.Nat.{ℕ, zero, suc, _≤_, _<_, _^_}
+use native.Mathlib.Omega.{arith}
+use native.Mathlib.Decide.{decLe}
+use lib.Dec.{leb, eqb}
+use lib.ListN.{length, getD}
+use borrow.Author.Tests.{leb-true, le-leb, leb-false, lt-leb, eqb-false, ne-eqb, not-false}
+use Rattle.lists.specs.Search.{any}
+use Rattle.lists.proofs.Tests.{clash, known, not-true-false, and-left, and-right, and-both, or-none}
+use Rattle.stations.specs.Member.{member}
+use Rattle.stations.proofs.Members.{member-below, below-members}
+use Rattle.quorum.specs.Limits.{brokenLimit, upTo, outOfPlace, mostStations, mostUnits, mostQuorums}
+use Rattle.quorum.specs.Family.{quorum}
+
+-- the table keeps the limits 1 to 4
+pub record Limits (n k : ℕ) (table : List ℕ) : Type 0 where
+  pub stations : (1 ≤ n) × (n ≤ mostStations)
+  pub stock : (1 ≤ k) × (k ≤ mostUnits)
+  pub quorums : (1 ≤ length table) × (length table ≤ mostQuorums)
+  pub members : (p : ℕ) → p < length table → (quorum table p ≡ 0 → ⊥) × (quorum table p < 2 ^ n)
+
+-- a number names a station from n on exactly when it is 2^n or more
+pub names-from : (n q i : ℕ) → n ≤ i → member q i ≡ true → 2 ^ n ≤ q
+names-from n q i h m =
+    by-cases (decLe (2 ^ n) q) (λ le. le) (λ (small : ¬ (2 ^ n ≤ q)). absurd (clash m (member-below n q i (omega arith) h)))
+
+pub names-below : (n q : ℕ) → 2 ^ n ≤ q → ((i : ℕ) → n ≤ i → member q i ≡ false) → ⊥
+names-below n q h none = omega (arith, below-members n q none)
+
+-- ---- from the tests to the numbers
+
+up-to : (most x : ℕ) → not (upTo most x) ≡ false → (1 ≤ x) × (x ≤ most)
+up-to most x e =
+    let t = not-false (upTo most x) e in
+    (leb-true 1 x (and-left (leb 1 x) (leb x most) t), leb-true x most (and-right (leb 1 x) (leb x most) t))
+
+in-place : (n : ℕ) (table : List ℕ) → any (outOfPlace n) table ≡ false → (p : ℕ) → p < length table → (quorum table p ≡ 0 → ⊥) × (quorum table p < 2 ^ n)
+in-place n [] e p h = absurd (omega arith)
+in-place n (q ∷ table) e zero h =
+    let (this, rest) = or-none (outOfPlace n q) (any (outOfPlace n) table) e in
+    let (some, small) = or-none (eqb q 0) (leb (2 ^ n) q) this in
+    (eqb-false q 0 some, leb-false (2 ^ n) q small)
+in-place n (q ∷ table) e (suc p) h = in-place n table (or-none (outOfPlace n q) (any (outOfPlace n) table) e .1) p (omega arith)
+
+-- the branches of a test that ends in 0
+pub otherwise : (b : Bool) (r x : ℕ) → (r ≡ 0 → ⊥) → cond b r x ≡ 0 → (b ≡ false) × (x ≡ 0)
+otherwise true r x h e = absurd (h e)
+otherwise false r x h e = (refl, e)
+
+pub limits-kept : (n k : ℕ) (table : List ℕ) → brokenLimit n k table ≡ 0 → Limits n k table
+unfolding brokenLimit
+limits-kept n k table e =
+    let (one, rest) = otherwise (not (upTo mostStations n)) 1 _ (λ z. omega arith) e in
+    let (two, rest′) = otherwise (not (upTo mostUnits k)) 2 _ (λ z. omega arith) rest in
+    let (three, rest″) = otherwise (not (upTo mostQuorums (length table))) 3 _ (λ z. omega arith) rest′ in
+    let (four, end) = otherwise (any (outOfPlace n) table) 4 0 (λ z. omega arith) rest″ in
+    record {
+      stations = up-to mostStations n one;
+      stock = up-to mostUnits k two;
+      quorums = up-to mostQuorums (length table) three;
+      members = in-place n table four;
+    }

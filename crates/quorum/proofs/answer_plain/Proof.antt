@@ -1,0 +1,32 @@
+use Rattle.quorum.specs.Answer.{said, answerTo}
+use mathlib.Core.Path.{_≡_, refl, sym, ap, _∙_}
+use mathlib.Core.Bool.{Bool, true, false, cond, not, _&&_, _||_}
+use mathlib.Core.List.{List, [], _∷_, _++_}
+use mathlib.Core.Logic.{⊎-elim}
+use Prim.Native.Nat.{ℕ, suc, _+_, _≤_, _<_, _-_, _^_}
+use native.Mathlib.Omega.{arith}
+use lib.ListN.{length, drop, getD, set, replicate, length-set}
+use borrow.Author.Needs.{needs}
+use Rattle.quorum.proofs.answer_plain.Statement.{statement}
+use Rattle.quorum.proofs.answer_plain.Tie as tie
+use Rattle.quorum.proofs.answer_plain.Reads as reads
+use Rattle.quorum.proofs.answer_plain.Lts as lts
+use Rattle.quorum.proofs.even.evenness.Reads as evenness-reads
+use Rattle.quorum.proofs.nested.is_nested.Reads as is-nested-reads
+
+is-nested-requires : tie.Need-is-nested-requires
+is-nested-requires c κs = search needs
+
+returns : tie.Need-returns
+unfolding said answerTo
+returns c = rw (sym (c .before .is-nested .ensures) ∙ c .if1 .taken, c .before .before .before .pre)
+
+evenness-requires : tie.Need-evenness-requires
+evenness-requires c κs = search needs
+
+returns-2 : tie.Need-returns-2
+unfolding said answerTo
+returns-2 c = rw (sym (c .before .before .is-nested .ensures) ∙ c .before .if1 .left, c .before .before .before .before .pre, c .evenness .ensures)
+
+pub answer-plain-spec : {M : Type 1} → statement M
+answer-plain-spec = tie.close (tie.spec is-nested-requires returns evenness-requires returns-2)

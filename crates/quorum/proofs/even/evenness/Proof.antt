@@ -1,0 +1,84 @@
+use lib.Dec.{eqb}
+use borrow.Author.Count.{below-none, below-more}
+use borrow.Author.Tests.{eq-eqb, ne-eqb}
+use Rattle.lists.proofs.Searches.{every-true, every-false}
+use Rattle.quorum.specs.Even.{belongs, even}
+use mathlib.Core.Path.{_≡_, refl, sym, ap, _∙_}
+use mathlib.Core.Bool.{Bool, true, false, cond, not, _&&_, _||_}
+use mathlib.Core.List.{List, [], _∷_, _++_}
+use mathlib.Core.Logic.{⊎-elim}
+use Prim.Native.Nat.{ℕ, suc, _+_, _≤_, _<_, _-_, _^_}
+use native.Mathlib.Omega.{arith}
+use lib.ListN.{length, drop, getD, set, replicate, length-set}
+use borrow.Author.Needs.{needs}
+use Rattle.quorum.proofs.even.evenness.Statement.{statement}
+use Rattle.quorum.proofs.even.evenness.Tie as tie
+use Rattle.quorum.proofs.even.evenness.Reads as reads
+use Rattle.quorum.proofs.even.evenness.Lts as lts
+use Rattle.quorum.proofs.even.quorums_of.Reads as quorums-of-reads
+
+abbrev Inv-loop : tie.InvT-loop
+Inv-loop n quorums first i₀ i =
+    (i ≤ n) × (first ≡ belongs quorums 0) × ((j : ℕ) → j < i → eqb (belongs quorums j) (belongs quorums 0) ≡ true)
+
+abbrev μ-loop : tie.MeasureT-loop
+μ-loop n quorums first i₀ i = n - i
+
+quorums-of-requires : tie.Need-quorums-of-requires Inv-loop μ-loop
+quorums-of-requires c κs = search needs
+
+loop-holds : tie.Need-loop-holds Inv-loop μ-loop
+loop-holds c = (search needs, c .quorums-of .ensures, below-none _)
+
+quorums-of-requires-2 : tie.Need-quorums-of-requires-2 Inv-loop μ-loop
+quorums-of-requires-2 c κs = search needs
+
+returns : tie.Need-returns Inv-loop μ-loop
+unfolding even
+returns c =
+    let start = c .before .before .before .before .before .before .args in
+    let at = c .before .before .before .loop in
+    let table = start .quorums .now in
+    let differs : eqb (belongs table (at .i)) (belongs table 0) ≡ false =
+    ne-eqb (belongs table (at .i)) (belongs table 0) (λ e. c .if1 .taken (c .before .quorums-of2 .ensures ∙ e ∙ sym (at .inv .1))) in
+    rw (every-false (λ (i : ℕ). eqb (belongs table i) (belongs table 0)) (start .n) (at .i) (omega arith) differs)
+
+add-i : tie.Need-add-i Inv-loop μ-loop
+add-i c = search needs
+
+loop-less : tie.Need-loop-less Inv-loop μ-loop
+loop-less c = search needs
+
+loop-again : tie.Need-loop-again Inv-loop μ-loop
+loop-again c =
+    let start = c .before .before .before .before .before .before .args in
+    let at = c .before .before .before .loop in
+    let table = start .quorums .now in (
+      search needs,
+      at .inv .1,
+      below-more _ (at .i) (at .inv .2)
+          (eq-eqb (belongs table (at .i)) (belongs table 0) (sym (c .before .quorums-of2 .ensures) ∙ c .if1 .left ∙ at .inv .1)),
+    )
+
+returns-2 : tie.Need-returns-2 Inv-loop μ-loop
+unfolding even
+returns-2 c =
+    let start = c .before .before .before .before .args in
+    let at = c .before .loop in
+    let table = start .quorums .now in
+    rw (every-true (λ (i : ℕ). eqb (belongs table i) (belongs table 0)) (start .n) (λ i h. at .inv .2 i (omega arith)))
+
+pub evenness-spec : {M : Type 1} → statement M
+evenness-spec =
+    tie.close
+    (tie.spec
+    Inv-loop
+    μ-loop
+    quorums-of-requires
+    loop-holds
+    quorums-of-requires-2
+    returns
+    add-i
+    loop-less
+    loop-again
+    returns-2)

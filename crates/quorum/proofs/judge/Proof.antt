@@ -1,0 +1,94 @@
+use Rattle.quorum.specs.Answer.{said}
+use Rattle.quorum.proofs.LimitLaws.{limits-kept}
+use Rattle.quorum.proofs.Judging.{width-found, byte-finite, six, seven-or-none}
+use Rattle.quorum.specs.Limits.{mostStations}
+use mathlib.Core.Path.{_≡_, refl, sym, ap, _∙_}
+use mathlib.Core.Bool.{Bool, true, false, cond, not, _&&_, _||_}
+use mathlib.Core.List.{List, [], _∷_, _++_}
+use mathlib.Core.Logic.{⊎-elim}
+use Prim.Native.Nat.{ℕ, suc, _+_, _≤_, _<_, _-_, _^_}
+use native.Mathlib.Omega.{arith}
+use lib.ListN.{length, drop, getD, set, replicate, length-set}
+use borrow.Author.Needs.{needs}
+use Rattle.quorum.proofs.judge.Statement.{statement}
+use Rattle.quorum.proofs.judge.Tie as tie
+use Rattle.quorum.proofs.judge.Reads as reads
+use Rattle.quorum.proofs.judge.Lts as lts
+use Rattle.quorum.proofs.answer_plain.Reads as answer-plain-reads
+use Rattle.quorum.proofs.family.first_family.Reads as first-family-reads
+use Rattle.quorum.proofs.lacks.Reads as lacks-reads
+use Rattle.quorum.proofs.need.fill.Reads as fill-reads
+use Rattle.quorum.proofs.width_of.Reads as width-of-reads
+
+fill-requires : tie.Need-fill-requires
+fill-requires c κs =
+    let start = c .before .before .before in
+    (limits-kept (start .args .n) (start .args .k) (start .args .quorums .now) (start .pre .0) .stations .1, start .pre .1)
+
+width-of-requires : tie.Need-width-of-requires
+width-of-requires c κs =
+    let start = c .before .before .before .before .before .before .before in
+    (limits-kept (start .args .n) (start .args .k) (start .args .quorums .now) (start .pre .0) .stations .1, omega (arith, start .pre .1, c .before .before .before .fill .kept .1 .1 .0))
+
+lacks-requires : tie.Need-lacks-requires
+lacks-requires c κs =
+    let start = c .before .before .before .before .before .before .before .before in
+    limits-kept (start .args .n) (start .args .k) (start .args .quorums .now) (start .pre .0) .stock .1
+
+first-family-requires : tie.Need-first-family-requires
+first-family-requires c κs =
+    let start = c .before .before .before .before .before .before .before .before .before .before .before in
+    let fill = c .before .before .before .before .before .before .before .fill in
+    let limits = limits-kept (start .args .n) (start .args .k) (start .args .quorums .now) (start .pre .0) in (
+      (limits .stations .0, limits .stations .1, limits .quorums .1, omega (arith, start .pre .1, fill .kept .1 .1 .0)),
+      (
+        fill .ensures .0,
+        byte-finite (start .args .n) (start .args .k) (start .args .quorums .now) (length (start .args .scratch .now)) (start .pre .0) (start .pre .1) (fill .last .1 .1 .0) (fill .ensures .0)
+            (c .before .before .before .width-of .result) (c .before .before .before .width-of .ensures) (sym (c .before .before .lacks .ensures) ∙ c .before .if1 .taken),
+      ),
+    )
+
+same-length : tie.Need-same-length
+same-length c = search needs
+
+returns : tie.Need-returns
+returns c =
+    let start = c .before .before .before .before .before .before .before .before .before .before .before .before in
+    let bytes = c .before .before .before .before .before .before .before .before .fill .last .1 .1 .0 in (
+      six (start .args .n) (start .args .k) (start .args .quorums .now) (length (start .args .scratch .now)) (start .pre .0) (start .pre .1) bytes (c .before .before .before .before .before .before .before .before .fill .ensures .0)
+          (c .before .before .before .before .width-of .result) (c .before .before .before .before .width-of .ensures) (sym (c .before .before .before .lacks .ensures) ∙ c .before .before .if1 .taken) (c .first-family .result) (c .first-family .ensures),
+      c .before .before .before .before .before .before .before .before .fill .ensures .1,
+    )
+
+answer-plain-requires : tie.Need-answer-plain-requires
+answer-plain-requires c κs =
+    let start = c .before .before .before .before .before .before .before .before .before .before in
+    let fill = c .before .before .before .before .before .before .fill in
+    width-found (start .args .n) (start .args .k) (start .args .quorums .now) (length (start .args .scratch .now)) (start .pre .0) (start .pre .1) (fill .last .1 .1 .0) (fill .ensures .0)
+    (c .before .before .width-of .result) (c .before .before .width-of .ensures)
+
+same-length-2 : tie.Need-same-length-2
+same-length-2 c = search needs
+
+returns-2 : tie.Need-returns-2
+returns-2 c =
+    let start = c .before .before .before .before .before .before .before .before .before .before .before in
+    let fill = c .before .before .before .before .before .before .before .fill in (
+      seven-or-none (start .args .n) (start .args .k) (start .args .quorums .now) (length (start .args .scratch .now)) (start .pre .0) (start .pre .1) (fill .last .1 .1 .0) (fill .ensures .0)
+          (c .before .before .before .width-of .result) (c .before .before .before .width-of .ensures) (sym (c .before .before .lacks .ensures) ∙ c .before .if1 .left) (said (c .answer-plain .result)) (c .answer-plain .ensures),
+      fill .ensures .1,
+    )
+
+pub judge-spec : {M : Type 1} → statement M
+judge-spec =
+    tie.close
+    (tie.spec
+    fill-requires
+    width-of-requires
+    lacks-requires
+    first-family-requires
+    same-length
+    returns
+    answer-plain-requires
+    same-length-2
+    returns-2)

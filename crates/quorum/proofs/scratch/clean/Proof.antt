@@ -1,0 +1,68 @@
+use Rattle.quorum.proofs.Cleaning.{cleaned-short, cleaned-long}
+use borrow.Author.Fill.{fill-none, fill-more}
+use Rattle.quorum.specs.Scratch.{scratchBytes, cleaned}
+use mathlib.Core.Path.{_≡_, refl, sym, ap, _∙_}
+use mathlib.Core.Bool.{Bool, true, false, cond, not, _&&_, _||_}
+use mathlib.Core.List.{List, [], _∷_, _++_}
+use mathlib.Core.Logic.{⊎-elim}
+use Prim.Native.Nat.{ℕ, suc, _+_, _≤_, _<_, _-_, _^_}
+use native.Mathlib.Omega.{arith}
+use lib.ListN.{length, drop, getD, set, replicate, length-set}
+use borrow.Author.Needs.{needs}
+use Rattle.quorum.proofs.scratch.clean.Statement.{statement}
+use Rattle.quorum.proofs.scratch.clean.Tie as tie
+use Rattle.quorum.proofs.scratch.clean.Reads as reads
+use Rattle.quorum.proofs.scratch.clean.Lts as lts
+
+abbrev Inv-loop : tie.InvT-loop
+Inv-loop scratch₀ i₀ scratch i =
+    (i ≤ scratchBytes) × (length scratch ≡ length scratch₀) × (scratch ≡ replicate i 0 ++ drop i scratch₀)
+
+abbrev μ-loop : tie.MeasureT-loop
+μ-loop scratch₀ i₀ scratch i = scratchBytes - i
+
+returns : tie.Need-returns Inv-loop μ-loop
+returns c = sym (cleaned-short (c .before .args .scratch .now) (c .if1 .taken))
+
+loop-holds : tie.Need-loop-holds Inv-loop μ-loop
+loop-holds c = search needs
+
+slice-write-scratch : tie.Need-slice-write-scratch Inv-loop μ-loop
+slice-write-scratch c = omega arith
+
+add-i : tie.Need-add-i Inv-loop μ-loop
+add-i c = search needs
+
+loop-less : tie.Need-loop-less Inv-loop μ-loop
+loop-less c = search needs
+
+loop-again : tie.Need-loop-again Inv-loop μ-loop
+loop-again c =
+    let at = c .before .loop in
+    let start = c .before .before .before .args .scratch .now in
+    (search needs, simp length-set (at .inv .1), ap (λ (l : List ℕ). set l (at .i) 0) (at .inv .2) ∙ fill-more (at .i) 0 start (omega arith))
+
+same-length : tie.Need-same-length Inv-loop μ-loop
+same-length c = c .before .loop .inv .1
+
+returns-2 : tie.Need-returns-2 Inv-loop μ-loop
+returns-2 c =
+    let at = c .before .loop in
+    let start = c .before .before .before .args .scratch .now in
+    let end : at .i ≡ scratchBytes = omega arith in
+    at .inv .2 ∙ ap (λ (i : ℕ). replicate i 0 ++ drop i start) end ∙ sym (cleaned-long start (omega arith))
+
+pub clean-spec : {M : Type 1} → statement M
+clean-spec =
+    tie.close
+    (tie.spec
+    Inv-loop
+    μ-loop
+    returns
+    loop-holds
+    slice-write-scratch
+    add-i
+    loop-less
+    loop-again
+    same-length
+    returns-2)

@@ -1,0 +1,10 @@
+pub mod Limits
+pub mod Family
+pub mod Width
+pub mod Need
+pub mod Nested
+pub mod Even
+pub mod Refusal
+pub mod Scratch
+pub mod Answer
+pub mod Arbiter

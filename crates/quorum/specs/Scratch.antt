@@ -1,0 +1,14 @@
+-- The scratch that a caller lends to the check.
+use mathlib.Core.Bool.{Bool, cond}
+use mathlib.Core.List.{List, _++_}
+use Prim.Native.Nat.{ℕ}
+use lib.ListN.{length, drop, replicate}
+use lib.Dec.{ltb}
+
+-- "a lent scratch of 4,096 bytes or more"
+abbrev pub scratchBytes : ℕ
+scratchBytes = 4096
+
+-- "zeros in its first 4,096 bytes and is unchanged beyond; a shorter one is unchanged"
+unfoldable pub cleaned : List ℕ → List ℕ
+cleaned s = cond (ltb (length s) scratchBytes) s (replicate scratchBytes 0 ++ drop scratchBytes s)

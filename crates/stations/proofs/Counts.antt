@@ -1,0 +1,63 @@
+-- The number of members: never more than the stations, and less for a smaller set.
+-- Assumes nothing.
+use mathlib.Core.Path.{_≡_, refl, sym, ap, _∙_}
+use mathlib.Core.Bool.{Bool, true, false, _&&_, cond}
+use mathlib.Core.Logic.{_⊎_, inl, inr, ⊎-elim, by-cases}
+use Prim.Native.Nat.{ℕ, zero, suc, _+_, _^_, _≤_, _<_}
+use native.Mathlib.Omega.{arith}
+use native.Mathlib.Decide.{decLt}
+use lib.Bits.{bitAnd, and-le-l}
+use native.Mathlib.Nat.{lt-of-le-of-lt, add-comm, zero-add}
+use native.Mathlib.Numerals.{add-one}
+use Rattle.lists.proofs.Below.{below-suc}
+use Rattle.stations.specs.Member.{member}
+use Rattle.stations.specs.Sets.{countBelow}
+use Rattle.stations.proofs.Members.{member-and, member-below, member-ext}
+
+-- of n stations at most n are members
+pub count-le : (q n : ℕ) → countBelow q n ≤ n
+unfolding countBelow
+count-le q zero = omega arith
+count-le q (suc n) = go (member q n) (count-le q n)
+  where
+    go : (b : Bool) → countBelow q n ≤ n → cond b 1 0 + countBelow q n ≤ suc n
+    go true h = omega arith
+    go false h = omega arith
+
+-- one station more
+pub count-member : (q i : ℕ) → member q i ≡ true → countBelow q i + 1 ≡ countBelow q (i + 1)
+unfolding countBelow
+count-member q i m = rw (add-one i, m) (add-comm (countBelow q i) 1)
+
+pub count-other : (q i : ℕ) → member q i ≡ false → countBelow q i ≡ countBelow q (i + 1)
+unfolding countBelow
+count-other q i m = rw (add-one i, m) (sym (zero-add (countBelow q i)))
+
+-- among the first n stations the common part with q has fewer members than s, or exactly those of s
+abbrev FewerOrSame : ℕ → ℕ → ℕ → Type 0
+FewerOrSame s q n =
+    (countBelow (bitAnd s q) n < countBelow s n)
+    ⊎ ((countBelow (bitAnd s q) n ≡ countBelow s n) × ((i : ℕ) → i < n → member (bitAnd s q) i ≡ member s i))
+
+one-more : (s q n : ℕ) → FewerOrSame s q n → (a b : Bool) → member s n ≡ a → member q n ≡ b → FewerOrSame s q (suc n)
+unfolding countBelow
+one-more s q n (inl h) true true p r = inl (rw (member-and s q n, p, r) (omega arith))
+one-more s q n (inl h) true false p r = inl (rw (member-and s q n, p, r) (omega arith))
+one-more s q n (inl h) false b p r = inl (rw (member-and s q n, p) (omega arith))
+one-more s q n (inr h) true false p r = inl (rw (member-and s q n, p, r) (omega arith))
+one-more s q n (inr h) true true p r = inr (rw (member-and s q n, p, r) (omega arith), below-suc n h.1 (member-and s q n ∙ rw (p, r)))
+one-more s q n (inr h) false b p r = inr (rw (member-and s q n, p) (omega arith), below-suc n h.1 (member-and s q n ∙ rw p))
+
+fewer-or-same : (s q n : ℕ) → FewerOrSame s q n
+unfolding countBelow
+fewer-or-same s q zero = inr (refl, λ i h. absurd (omega arith))
+fewer-or-same s q (suc n) = one-more s q n (fewer-or-same s q n) (member s n) (member q n) refl refl
+
+-- a common part that is not the whole set has fewer members
+pub count-fewer : (s q n : ℕ) → s < 2 ^ n → (bitAnd s q ≡ s → ⊥) → countBelow (bitAnd s q) n < countBelow s n
+count-fewer s q n h differ = ⊎-elim (λ less. less) (λ same. absurd (differ (member-ext (bitAnd s q) s (all (same .1))))) (fewer-or-same s q n)
+  where
+    all : ((i : ℕ) → i < n → member (bitAnd s q) i ≡ member s i) → (i : ℕ) → member (bitAnd s q) i ≡ member s i
+    all below i =
+        by-cases (decLt i n) (λ p. below i p)
+        (λ p. member-below n (bitAnd s q) i (lt-of-le-of-lt (and-le-l s q) h) (omega arith) ∙ sym (member-below n s i h (omega arith)))

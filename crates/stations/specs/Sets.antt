@@ -1,0 +1,33 @@
+-- Sets of stations: all of them, one within another, how many, and the lowest from a station on.
+-- The common part of two sets is `bitAnd` of the library: `member-and` of the laws says so.
+use mathlib.Core.Bool.{Bool, true, false, cond}
+use Prim.Native.Nat.{ℕ, zero, suc, _+_, _-_, _^_}
+use lib.Dec.{eqb}
+use lib.Bits.{bitAnd}
+use Rattle.stations.specs.Member.{member}
+
+-- a set has room for the stations 0 to 15: "a 16-bit number"
+abbrev pub places : ℕ
+places = 16
+
+-- the set of the stations 0 to n - 1
+abbrev pub everyone : ℕ → ℕ
+everyone n = 2 ^ n - 1
+
+-- whether a contains or equals b
+unfoldable pub contains : ℕ → ℕ → Bool
+contains a b = eqb (bitAnd a b) b
+
+-- the number of members of q among the stations 0 to n - 1
+unfoldable pub countBelow : ℕ → ℕ → ℕ
+countBelow q zero = 0
+countBelow q (suc n) = cond (member q n) 1 0 + countBelow q n
+
+-- the lowest member of q among i and the stations that follow it, of which there are as many as the last argument says; 16 if there is none
+unfoldable pub lowestAmong : ℕ → ℕ → ℕ → ℕ
+lowestAmong q i zero = places
+lowestAmong q i (suc more) = cond (member q i) i (lowestAmong q (suc i) more)
+
+-- the lowest member of q from station i on, 16 if there is none
+unfoldable pub lowestFrom : ℕ → ℕ → ℕ
+lowestFrom q i = lowestAmong q i (places - i)

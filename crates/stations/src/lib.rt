@@ -1,0 +1,72 @@
+// Sets of stations as 16-bit masks: station i is a member exactly when bit i, worth 2^i, is one.
+ghost use mathlib.Core.Path.{_≡_};
+ghost use Prim.Native.Nat.{min};
+ghost use lib.Bits.{bitAnd};
+ghost use Rattle.stations.specs.Member.{member};
+ghost use Rattle.stations.specs.Sets.{everyone as allOf, contains, countBelow, places, lowestFrom};
+
+// A mask has places for the stations 0 to 15.
+pub const PLACES: usize = 16;
+
+// Whether station i is a member of q. No station from 16 on is.
+pub fn has(q: u16, i: usize) -> bool
+    ensures { λ r. ⌜ r ≡ member q i ⌝ }
+{
+    if PLACES <= i {
+        return false;
+    }
+    (q >> i) % 2 == 1
+}
+
+// The set of the stations 0 to n - 1. A mask has no place for a station from 16 on.
+pub fn everyone(n: usize) -> u16
+    ensures { λ r. ⌜ r ≡ allOf (min n places) ⌝ }
+{
+    if PLACES <= n {
+        return 65535;
+    }
+    (1u16 << n) - 1
+}
+
+// The stations that are in both sets.
+pub fn common(a: u16, b: u16) -> u16
+    ensures { λ r. ⌜ r ≡ bitAnd a b ⌝ }
+{
+    a & b
+}
+
+// Whether a contains or equals b.
+pub fn holds_all(a: u16, b: u16) -> bool
+    ensures { λ r. ⌜ r ≡ contains a b ⌝ }
+{
+    a & b == b
+}
+
+// The number of members.
+pub fn count(q: u16) -> usize
+    ensures { λ r. ⌜ r ≡ countBelow q places ⌝ }
+{
+    let mut members: usize = 0;
+    let mut i: usize = 0;
+    while i < PLACES {
+        if has(q, i) {
+            members += 1;
+        }
+        i += 1;
+    }
+    members
+}
+
+// The lowest member from station `from` on, 16 if there is none.
+pub fn lowest_from(q: u16, from: usize) -> usize
+    ensures { λ r. ⌜ r ≡ lowestFrom q from ⌝ }
+{
+    let mut i = from;
+    while i < PLACES {
+        if has(q, i) {
+            return i;
+        }
+        i += 1;
+    }
+    PLACES
+}
