@@ -1,17 +1,17 @@
 -- Searches over lists that are joined or mapped, and tests over the numbers below a bound.
 -- Assumes nothing.
-use mathlib.Core.Path.{_≡_, refl, sym, ap, _∙_}
-use mathlib.Core.Bool.{Bool, true, false, cond, _&&_, _||_, or-assoc}
+use mathlib.Core.Bool.{Bool, true, false, _||_, or-assoc}
 use mathlib.Core.List.{List, [], _∷_, _++_, map}
+use mathlib.Core.Logic.{⊎-elim}
+use mathlib.Core.Path.{_≡_, refl, sym, ap, _∙_}
 use Prim.Native.Nat.{ℕ, zero, suc, _+_, _≤_, _<_}
+use native.Mathlib.Numerals.{add-one}
+use native.Mathlib.Omega.{arith}
 use lib.ListN.{length, getD, drop, drop-of-length-le}
 use lib.Seq.{drop-cons}
-use native.Mathlib.Numerals.{add-one}
-use mathlib.Core.Logic.{⊎-elim}
-use native.Mathlib.Omega.{arith}
-use Rattle.lists.proofs.Tests.{known, clash, not-true-false, and-left, and-right, and-both, or-none, or-left, or-right, or-cases}
-use Rattle.lists.proofs.Below.{below-suc}
 use Rattle.lists.specs.Search.{any, firstOf, everyBelow}
+use Rattle.lists.proofs.Below.{below-suc}
+use Rattle.lists.proofs.Tests.{known, clash, not-true-false, and-left, and-right, and-both, or-none, or-left, or-right, or-cases}
 
 module _ {A : Type 0} where
   pub any-append : (f : A → Bool) (xs ys : List A) → any f (xs ++ ys) ≡ (any f xs || any f ys)

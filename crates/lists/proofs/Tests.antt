@@ -1,8 +1,8 @@
 -- Boolean tests: true or false, and joined.
 -- Assumes nothing.
-use mathlib.Core.Path.{_≡_, refl, sym, _∙_}
 use mathlib.Core.Bool.{Bool, true, false, _&&_, _||_, true≢false}
 use mathlib.Core.Logic.{_⊎_, inl, inr}
+use mathlib.Core.Path.{_≡_, refl, sym, _∙_}
 
 pub known : (b : Bool) → (b ≡ true) ⊎ (b ≡ false)
 known true = inl refl

@@ -1,26 +1,24 @@
 -- The check accepts exactly the k-arbiters of RR-2523 (Definition 4.1) within the limits, where scratch is enough.
 -- Assumes nothing.
-use mathlib.Core.Path.{_≡_, refl, sym, ap, _∙_}
-use mathlib.Core.Bool.{Bool, true, false, cond}
+use mathlib.Core.Bool.{false}
 use mathlib.Core.List.{List}
 use mathlib.Core.Logic.{_↔_, by-cases}
-use Prim.Native.Nat.{ℕ, _+_, _≤_, _<_}
-use native.Mathlib.Omega.{arith}
+use mathlib.Core.Path.{_≡_}
+use Prim.Native.Nat.{ℕ, _≤_}
 use native.Mathlib.Decide.{ℕ-discrete}
-use lib.Dec.{eqb, ltb}
-use lib.ListN.{length}
-use borrow.Author.Tests.{ltb-false, le-ltb, eq-eqb, ne-eqb, eqb-true}
+use native.Mathlib.Omega.{arith}
+use lib.Dec.{ltb}
+use borrow.Author.Tests.{ltb-false, le-ltb, eq-eqb, ne-eqb}
 use Rattle.lists.proofs.Tests.{not-true-false}
-use Rattle.quorum.specs.Limits.{brokenLimit}
-use Rattle.quorum.specs.Family.{Numbers}
-use Rattle.quorum.specs.Width.{lacksCommon}
-use Rattle.quorum.specs.Nested.{nested}
-use Rattle.quorum.specs.Scratch.{scratchBytes}
-use Rattle.quorum.specs.Refusal.{refusal}
 use Rattle.quorum.specs.Arbiter.{Arbiter}
-use Rattle.quorum.proofs.LimitLaws.{otherwise}
+use Rattle.quorum.specs.Limits.{brokenLimit}
+use Rattle.quorum.specs.Nested.{nested}
+use Rattle.quorum.specs.Refusal.{refusal}
+use Rattle.quorum.specs.Scratch.{scratchBytes}
+use Rattle.quorum.specs.Width.{lacksCommon}
 use Rattle.quorum.proofs.CommonMember.{common-member}
-use Rattle.quorum.proofs.Lacking.{Without, lacks-iff}
+use Rattle.quorum.proofs.Lacking.{lacks-iff}
+use Rattle.quorum.proofs.LimitLaws.{otherwise}
 use Rattle.quorum.proofs.Minimality.{minimal, minimal-nested}
 
 -- what an accepted table keeps: each test of the check, passed

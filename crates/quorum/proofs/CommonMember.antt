@@ -1,29 +1,29 @@
 -- The one fact that the machine uses of an accepted table: any quorums, at most k + 1 and repeats allowed, have a common station below n.
 -- Assumes nothing.
-use mathlib.Core.Path.{_≡_, refl, sym, ap, _∙_}
 use mathlib.Core.Bool.{true, false, _&&_}
 use mathlib.Core.List.{List, [], _∷_}
 use mathlib.Core.Logic.{_⊎_, inl, inr, ⊎-elim, by-cases}
-use Prim.Native.Nat.{ℕ, zero, suc, _+_, _≤_, _<_, _^_}
+use mathlib.Core.Path.{_≡_, sym, ap, _∙_}
+use Prim.Native.Nat.{ℕ, _+_, _≤_}
+use native.Mathlib.Decide.{ℕ-discrete}
 use native.Mathlib.Nat.{lt-of-le-of-lt}
 use native.Mathlib.Omega.{arith}
-use native.Mathlib.Decide.{ℕ-discrete}
-use lib.Bits.{bitAnd, and-comm}
-use lib.Pow.{ones-lt}
+use lib.Bits.{and-comm}
 use lib.Dec.{leb}
 use lib.ListN.{length}
-use borrow.Author.Tests.{le-leb, leb-true}
-use Rattle.lists.proofs.Tests.{clash, and-both, and-left, and-right}
-use Rattle.stations.specs.Sets.{everyone}
+use lib.Pow.{ones-lt}
+use borrow.Author.Tests.{le-leb}
+use Rattle.lists.proofs.Tests.{clash, and-both}
 use Rattle.stations.specs.Member.{member}
+use Rattle.stations.specs.Sets.{everyone}
 use Rattle.stations.proofs.Members.{some-member, member-station, member-everyone, everyone-and, member-zero}
-use Rattle.quorum.specs.Limits.{brokenLimit}
+use Rattle.quorum.specs.Arbiter.{Common}
 use Rattle.quorum.specs.Family.{quorum, commonWithin, commonPart, Numbers}
+use Rattle.quorum.specs.Limits.{brokenLimit}
 use Rattle.quorum.specs.Need.{Emptying}
 use Rattle.quorum.specs.Width.{width, lacksCommon}
-use Rattle.quorum.specs.Arbiter.{Common}
-use Rattle.quorum.proofs.LimitLaws.{Limits, limits-kept}
 use Rattle.quorum.proofs.CommonParts.{common-le, common-members, members-common}
+use Rattle.quorum.proofs.LimitLaws.{Limits, limits-kept}
 use Rattle.quorum.proofs.Widths.{Width, width-is, emptied-list}
 
 -- ---- a list of quorums has a common station, or its common part is empty

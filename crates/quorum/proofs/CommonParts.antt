@@ -1,17 +1,16 @@
 -- The common part of a list of quorums: its members, its order, its repeats.
 -- Assumes nothing.
-use mathlib.Core.Path.{_≡_, refl, sym, ap, _∙_}
-use mathlib.Core.Bool.{Bool, true, false, _&&_}
+use mathlib.Core.Bool.{true}
 use mathlib.Core.List.{List, [], _∷_}
-use Prim.Native.Nat.{ℕ, zero, suc, _≤_, _<_, _^_}
-use native.Mathlib.Nat.{le-trans, le-refl, lt-of-le-of-lt}
-use lib.ListN.{length}
+use mathlib.Core.Path.{_≡_, refl, sym, _∙_}
+use Prim.Native.Nat.{ℕ, _≤_}
+use native.Mathlib.Nat.{le-trans, le-refl}
 use lib.Bits.{bitAnd, and-le-l, and-zero-l}
 use Rattle.lists.proofs.Tests.{and-left, and-right, and-both}
 use Rattle.stations.specs.Member.{member}
 use Rattle.stations.proofs.Members.{member-and, and-swap}
-use Rattle.quorum.specs.Family.{quorum, commonWithin}
 use Rattle.quorum.specs.Arbiter.{InAll}
+use Rattle.quorum.specs.Family.{quorum, commonWithin}
 
 module _ (table : List ℕ) where
   pub common-le : (s : ℕ) (f : List ℕ) → commonWithin table s f ≤ s

@@ -1,16 +1,16 @@
 -- Counting the quorums that a station belongs to, one quorum after the other.
 -- Assumes nothing.
-use mathlib.Core.Path.{_≡_, refl}
 use mathlib.Core.Bool.{true, false}
 use mathlib.Core.List.{List}
+use mathlib.Core.Path.{_≡_}
 use Prim.Native.Nat.{ℕ, suc, _+_, _≤_, _<_}
-use native.Mathlib.Numerals.{add-one}
 use native.Mathlib.Nat.{zero-add}
-use lib.ListN.{length, getD, drop, drop-of-length-le}
+use native.Mathlib.Numerals.{add-one}
+use lib.ListN.{length, drop, drop-of-length-le}
 use lib.Seq.{drop-cons}
 use Rattle.stations.specs.Member.{member}
-use Rattle.quorum.specs.Family.{quorum}
 use Rattle.quorum.specs.Even.{belongs}
+use Rattle.quorum.specs.Family.{quorum}
 
 pub belongs-member : (table : List ℕ) (i p : ℕ) → p < length table → member (quorum table p) i ≡ true
     → belongs (drop p table) i ≡ 1 + belongs (drop (p + 1) table) i

@@ -1,17 +1,17 @@
 -- `families` lists exactly the families of a size, and the first that a test holds of comes first in dictionary order.
 -- Assumes nothing.
+use mathlib.Core.Bool.{Bool, true, false, or-false}
+use mathlib.Core.List.{List, [], _∷_, map}
+use mathlib.Core.Logic.{⊎-elim, by-cases}
 use mathlib.Core.Path.{_≡_, refl, sym, ap, _∙_}
-use mathlib.Core.Bool.{Bool, true, false, cond, _||_, or-false}
-use mathlib.Core.List.{List, [], _∷_, _++_, map}
-use mathlib.Core.Logic.{_⊎_, inl, inr, ⊎-elim, by-cases}
 use Prim.Native.Nat.{ℕ, zero, suc, _+_, _≤_, _<_}
+use native.Mathlib.Decide.{ℕ-discrete}
 use native.Mathlib.Nat.{le-refl}
 use native.Mathlib.Omega.{arith}
-use native.Mathlib.Decide.{ℕ-discrete}
 use lib.ListN.{length}
 use Rattle.lists.specs.Search.{any, firstOf}
-use Rattle.lists.proofs.Tests.{clash, known, or-right, or-left, or-rest}
 use Rattle.lists.proofs.Searches.{any-append, any-map, first-append-some, first-append-none, first-map}
+use Rattle.lists.proofs.Tests.{clash, known, or-right, or-left, or-rest}
 use Rattle.quorum.specs.Family.{Family, families, Before}
 
 -- a family of later numbers is one of earlier ones

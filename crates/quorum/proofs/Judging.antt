@@ -1,27 +1,25 @@
 -- What the check has found, put together into its answer.
 -- Assumes nothing.
-use mathlib.Core.Path.{_≡_, refl, sym, ap, _∙_}
 use mathlib.Core.Bool.{Bool, true, false, cond, not, _&&_}
-use mathlib.Core.List.{List, []}
-use mathlib.Core.Logic.{⊎-elim}
+use mathlib.Core.List.{List}
+use mathlib.Core.Path.{_≡_, sym, _∙_}
 use Prim.Native.Nat.{ℕ, _+_, _≤_, _<_}
 use native.Mathlib.Omega.{arith}
-use lib.Dec.{leb, ltb, eqb}
+use lib.Dec.{leb}
 use lib.ListN.{length, getD}
 use lib.Pow.{ones-lt}
 use borrow.Author.Tests.{eq-eqb, ne-eqb, lt-ltb, le-ltb, leb-true}
-use Rattle.lists.specs.Search.{any}
 use Rattle.lists.specs.Cut.{cut}
-use Rattle.lists.proofs.Tests.{known, and-left}
+use Rattle.lists.specs.Search.{any}
+use Rattle.lists.proofs.Tests.{and-left}
 use Rattle.stations.specs.Sets.{everyone}
-use Rattle.quorum.specs.declared.Checked.{Checked}
+use Rattle.quorum.specs.Answer.{Answer, refused, answerTo, answer, said}
 use Rattle.quorum.specs.Limits.{brokenLimit, upTo, outOfPlace, mostStations, mostUnits, mostQuorums}
 use Rattle.quorum.specs.Need.{Needs, noNeed, sizeOf}
-use Rattle.quorum.specs.Width.{width, firstFamily, lacksCommon}
 use Rattle.quorum.specs.Nested.{nested}
-use Rattle.quorum.specs.Scratch.{scratchBytes}
 use Rattle.quorum.specs.Refusal.{refusal}
-use Rattle.quorum.specs.Answer.{Answer, refused, answerTo, answer, said}
+use Rattle.quorum.specs.Scratch.{scratchBytes}
+use Rattle.quorum.specs.Width.{width, firstFamily, lacksCommon}
 use Rattle.quorum.proofs.LimitLaws.{limits-kept}
 use Rattle.quorum.proofs.Needing.{need-width}
 

@@ -1,27 +1,26 @@
 -- A table lacks a common member exactly when some k + 1 quorums, repeats allowed, have none; and the family of refusal 6.
 -- Assumes nothing.
-use mathlib.Core.Path.{_≡_, refl, sym, ap, _∙_}
-use mathlib.Core.Bool.{true, false, _&&_}
-use mathlib.Core.List.{List, [], _∷_}
+use mathlib.Core.Bool.{true}
+use mathlib.Core.List.{List, _∷_}
 use mathlib.Core.Logic.{_↔_, ⊎-elim}
+use mathlib.Core.Path.{_≡_, refl, ap, _∙_}
 use Prim.Native.Nat.{ℕ, zero, suc, _+_, _-_, _≤_, _<_}
 use native.Mathlib.Omega.{arith}
-use lib.Bits.{bitAnd}
 use lib.Dec.{leb}
 use lib.ListN.{length}
 use borrow.Author.Tests.{leb-true}
 use Rattle.lists.proofs.Tests.{and-left, and-right}
 use Rattle.stations.specs.Sets.{everyone}
 use Rattle.stations.proofs.Members.{and-again}
-use Rattle.quorum.specs.Limits.{brokenLimit}
-use Rattle.quorum.specs.Family.{quorum, commonWithin, commonPart, emptyWithin, families, Numbers}
-use Rattle.quorum.specs.Need.{Emptying}
-use Rattle.quorum.specs.Width.{width, firstFamily, lacksCommon, emptied}
 use Rattle.quorum.specs.Arbiter.{Common}
-use Rattle.quorum.proofs.LimitLaws.{limits-kept}
-use Rattle.quorum.proofs.Families.{First}
-use Rattle.quorum.proofs.Widths.{Width, width-is, emptied-list, first-at-width}
+use Rattle.quorum.specs.Family.{quorum, commonWithin, commonPart, emptyWithin, Numbers}
+use Rattle.quorum.specs.Limits.{brokenLimit}
+use Rattle.quorum.specs.Need.{Emptying}
+use Rattle.quorum.specs.Width.{width, firstFamily, lacksCommon}
 use Rattle.quorum.proofs.CommonMember.{common-or-empty, common-not-empty, emptying-lacks}
+use Rattle.quorum.proofs.Families.{First}
+use Rattle.quorum.proofs.LimitLaws.{limits-kept}
+use Rattle.quorum.proofs.Widths.{Width, width-is, emptied-list, first-at-width}
 
 -- ---- repeats of the first quorum change nothing
 

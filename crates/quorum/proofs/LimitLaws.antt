@@ -1,21 +1,21 @@
 -- What the limits 1 to 4 say of a table, in numbers.
 -- Assumes nothing.
-use mathlib.Core.Path.{_≡_, refl, sym, ap, _∙_}
-use mathlib.Core.Bool.{Bool, true, false, cond, not, _&&_, _||_}
+use mathlib.Core.Bool.{Bool, true, false, cond, not}
 use mathlib.Core.List.{List, [], _∷_}
-use mathlib.Core.Logic.{⊎-elim, by-cases}
+use mathlib.Core.Logic.{by-cases}
+use mathlib.Core.Path.{_≡_, refl}
 use Prim.Native.Nat.{ℕ, zero, suc, _≤_, _<_, _^_}
-use native.Mathlib.Omega.{arith}
 use native.Mathlib.Decide.{decLe}
+use native.Mathlib.Omega.{arith}
 use lib.Dec.{leb, eqb}
-use lib.ListN.{length, getD}
-use borrow.Author.Tests.{leb-true, le-leb, leb-false, lt-leb, eqb-false, ne-eqb, not-false}
+use lib.ListN.{length}
+use borrow.Author.Tests.{leb-true, leb-false, eqb-false, not-false}
 use Rattle.lists.specs.Search.{any}
-use Rattle.lists.proofs.Tests.{clash, known, not-true-false, and-left, and-right, and-both, or-none}
+use Rattle.lists.proofs.Tests.{clash, and-left, and-right, or-none}
 use Rattle.stations.specs.Member.{member}
 use Rattle.stations.proofs.Members.{member-below, below-members}
-use Rattle.quorum.specs.Limits.{brokenLimit, upTo, outOfPlace, mostStations, mostUnits, mostQuorums}
 use Rattle.quorum.specs.Family.{quorum}
+use Rattle.quorum.specs.Limits.{brokenLimit, upTo, outOfPlace, mostStations, mostUnits, mostQuorums}
 
 -- the table keeps the limits 1 to 4
 pub record Limits (n k : ℕ) (table : List ℕ) : Type 0 where

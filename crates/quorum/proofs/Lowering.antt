@@ -1,35 +1,35 @@
 -- The quorums that lower what is still needed, taken from the lowest number on, are the first family in dictionary order.
 -- Assumes nothing.
+use mathlib.Core.Bool.{true, false}
+use mathlib.Core.List.{List, [], _∷_, map}
+use mathlib.Core.Logic.{⊎-elim, by-cases}
 use mathlib.Core.Path.{_≡_, refl, sym, ap, _∙_}
-use mathlib.Core.Bool.{Bool, true, false, cond, _||_, or-false}
-use mathlib.Core.List.{List, [], _∷_, _++_, map}
-use mathlib.Core.Logic.{_⊎_, inl, inr, ⊎-elim, by-cases}
 use Prim.Native.Nat.{ℕ, zero, suc, _+_, _≤_, _<_, _^_}
-use native.Mathlib.Nat.{lt-of-le-of-lt, le-refl}
-use native.Mathlib.Omega.{arith}
 use native.Mathlib.Decide.{decLt}
+use native.Mathlib.Nat.{lt-of-le-of-lt, le-refl}
+use native.Mathlib.Numerals.{add-one}
+use native.Mathlib.Omega.{arith}
 use lib.Bits.{bitAnd, and-le-l}
 use lib.Dec.{eqb, ltb}
 use lib.ListN.{length, getD, drop, drop-of-length-le}
-use native.Mathlib.Numerals.{add-one}
-use lib.Seq.{drop-cons}
 use lib.Pow.{ones-lt}
+use lib.Seq.{drop-cons}
 use borrow.Author.Tests.{eq-eqb, ne-eqb, eqb-true, lt-ltb, le-ltb, ltb-true, ltb-false}
 use Rattle.lists.specs.Search.{any, firstOf}
-use Rattle.lists.proofs.Tests.{clash, known, not-true-false, or-left, or-right}
 use Rattle.lists.proofs.Below.{below-suc}
 use Rattle.lists.proofs.Searches.{any-append, any-map, first-append-some, first-append-none, first-map}
+use Rattle.lists.proofs.Tests.{known, not-true-false, or-left, or-right}
 use Rattle.stations.specs.Sets.{everyone}
 use Rattle.stations.proofs.Members.{and-swap, and-again}
+use Rattle.quorum.specs.Family.{quorum, commonWithin, emptyWithin, families, Numbers}
 use Rattle.quorum.specs.Limits.{mostStations}
-use Rattle.quorum.specs.Family.{quorum, commonWithin, emptyWithin, families, Family, Numbers}
 use Rattle.quorum.specs.Need.{Emptying, Need, Needs, noNeed, lowering}
 use Rattle.quorum.specs.Width.{width, firstFamily}
-use Rattle.quorum.proofs.Families.{First, first-family}
-use Rattle.quorum.proofs.Sorted.{family-numbers}
-use Rattle.quorum.proofs.Widths.{everyone-some, first-at-width}
-use Rattle.quorum.proofs.Thinned.{with-quorum}
+use Rattle.quorum.proofs.Families.{first-family}
 use Rattle.quorum.proofs.Needing.{need-few, need-width}
+use Rattle.quorum.proofs.Sorted.{family-numbers}
+use Rattle.quorum.proofs.Thinned.{with-quorum}
+use Rattle.quorum.proofs.Widths.{everyone-some, first-at-width}
 
 module _ (n : ℕ) (table : List ℕ) (few : n ≤ mostStations) (bytes : List ℕ) (needs : Needs n table bytes) where
   -- ---- what the bytes say

@@ -1,22 +1,22 @@
 -- A table is nested exactly when one entry lies within another at a different place.
 -- Assumes nothing.
-use mathlib.Core.Path.{_≡_, refl, sym, ap, _∙_}
-use mathlib.Core.Bool.{Bool, true, false, _||_}
+use mathlib.Core.Bool.{true, false}
 use mathlib.Core.List.{List, [], _∷_}
-use mathlib.Core.Logic.{_⊎_, inl, inr, ⊎-elim, by-cases}
+use mathlib.Core.Logic.{⊎-elim}
+use mathlib.Core.Path.{_≡_, refl, ap}
 use Prim.Native.Nat.{ℕ, zero, suc, _+_, _≤_, _<_}
-use native.Mathlib.Omega.{arith}
 use native.Mathlib.Numerals.{add-one}
+use native.Mathlib.Omega.{arith}
 use lib.ListN.{length, getD, drop, drop-of-length-le}
 use lib.Seq.{drop-cons}
 use Rattle.lists.specs.Search.{any}
-use Rattle.lists.proofs.Tests.{clash, or-left, or-right, or-cases, not-true-false}
 use Rattle.lists.proofs.Searches.{any-at, any-found}
+use Rattle.lists.proofs.Tests.{clash, or-left, or-right, or-cases, not-true-false}
 use Rattle.stations.specs.Sets.{contains}
 use Rattle.stations.proofs.Members.{contains-members, members-contains}
+use Rattle.quorum.specs.Arbiter.{Within}
 use Rattle.quorum.specs.Family.{quorum}
 use Rattle.quorum.specs.Nested.{nested, comparable}
-use Rattle.quorum.specs.Arbiter.{Within}
 
 -- two entries at different places, of which one contains the other
 pub record Nesting (table : List ℕ) : Type 0 where

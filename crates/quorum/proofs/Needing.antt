@@ -1,27 +1,24 @@
 -- One byte of scratch for each set, filled in ascending order: each says what its set needs, from the bytes of the smaller sets.
 -- Assumes nothing.
-use mathlib.Core.Path.{_≡_, refl, sym, ap, _∙_}
-use mathlib.Core.Bool.{Bool, true, false, cond}
 use mathlib.Core.List.{List, [], _∷_}
 use mathlib.Core.Logic.{_⊎_, inl, inr, ⊎-elim, by-cases}
+use mathlib.Core.Path.{_≡_, refl, ap, _∙_}
 use Prim.Native.Nat.{ℕ, zero, suc, _+_, _≤_, _<_, _^_, min, zero-le}
-use native.Mathlib.Nat.{lt-of-le-of-lt, le-trans}
-use native.Mathlib.Omega.{arith}
 use native.Mathlib.Decide.{ℕ-discrete, decLe}
+use native.Mathlib.Numerals.{add-one}
+use native.Mathlib.Omega.{arith}
 use lib.Arith.{lt-of-le-ne}
-use lib.Pow.{ones-lt}
 use lib.Bits.{bitAnd, and-le-l}
-use lib.Dec.{eqb}
 use lib.ListN.{length, getD, drop, set, drop-of-length-le}
+use lib.Pow.{ones-lt}
 use lib.Seq.{drop-cons, getD-set-same, getD-set-other, lt-length-set}
 use borrow.Author.Count.{below-more}
-use native.Mathlib.Numerals.{add-one}
 use borrow.Author.Tests.{eq-eqb, ne-eqb}
-use Rattle.stations.specs.Sets.{everyone, countBelow}
+use Rattle.stations.specs.Sets.{everyone}
 use Rattle.stations.proofs.Counts.{count-le}
-use Rattle.quorum.specs.Limits.{mostStations}
 use Rattle.quorum.specs.Family.{quorum, commonWithin, Numbers}
-use Rattle.quorum.specs.Need.{Emptying, Need, Needs, noNeed, leastByte, oneMore, sizeOf}
+use Rattle.quorum.specs.Limits.{mostStations}
+use Rattle.quorum.specs.Need.{Emptying, Need, noNeed, leastByte, oneMore, sizeOf}
 use Rattle.quorum.specs.Width.{width}
 use Rattle.quorum.proofs.Thinned.{with-quorum, thinned}
 use Rattle.quorum.proofs.Widths.{Width, width-is, emptied-list}

@@ -1,14 +1,14 @@
 -- Quorums in any order and with repeats have the common part of a family that is no larger.
 -- Assumes nothing.
-use mathlib.Core.Path.{_≡_, refl, sym, ap, _∙_}
 use mathlib.Core.List.{List, [], _∷_}
 use mathlib.Core.Logic.{by-cases}
-use Prim.Native.Nat.{ℕ, zero, suc, _-_, _≤_, _<_, zero-le}
+use mathlib.Core.Path.{_≡_, refl, sym, ap, _∙_}
+use Prim.Native.Nat.{ℕ, suc, _-_, _≤_, _<_, zero-le}
+use native.Mathlib.Decide.{ℕ-discrete, decLt}
 use native.Mathlib.Nat.{le-refl}
 use native.Mathlib.Omega.{arith}
-use native.Mathlib.Decide.{ℕ-discrete, decLt}
-use lib.ListN.{length}
 use lib.Bits.{bitAnd}
+use lib.ListN.{length}
 use Rattle.stations.proofs.Members.{and-swap, and-again}
 use Rattle.quorum.specs.Family.{quorum, commonWithin, Family, Numbers}
 

@@ -1,9 +1,9 @@
 -- The loop that takes the first family: what it has taken, and what it will take, are the lowering quorums.
 -- Assumes nothing.
-use mathlib.Core.Path.{_≡_, refl, sym, ap, _∙_}
-use mathlib.Core.List.{List, [], _∷_, _++_, append-nil}
-use Prim.Native.Nat.{ℕ, suc, _+_, _≤_, _<_, _^_}
-use native.Mathlib.Nat.{lt-of-le-of-lt, zero-add}
+use mathlib.Core.List.{List, _∷_, _++_, append-nil}
+use mathlib.Core.Path.{_≡_, sym, ap, _∙_}
+use Prim.Native.Nat.{ℕ, _+_, _≤_, _<_, _^_}
+use native.Mathlib.Nat.{zero-add}
 use native.Mathlib.Omega.{arith}
 use lib.Bits.{bitAnd, and-le-l}
 use lib.ListN.{length, getD, drop, set, length-set}
@@ -12,8 +12,8 @@ use lib.Seq.{append-snoc}
 use Rattle.lists.specs.Cut.{cut}
 use Rattle.lists.proofs.Cuts.{cut-push, length-cut}
 use Rattle.stations.specs.Sets.{everyone}
-use Rattle.quorum.specs.Limits.{mostStations}
 use Rattle.quorum.specs.Family.{quorum}
+use Rattle.quorum.specs.Limits.{mostStations}
 use Rattle.quorum.specs.Need.{Needs, noNeed, lowering}
 use Rattle.quorum.specs.Width.{firstFamily}
 use Rattle.quorum.proofs.Lowering.{reached, one-less, lowering-first, lowering-length, lowering-takes, lowering-skips, lowering-end}

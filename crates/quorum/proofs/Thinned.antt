@@ -1,14 +1,14 @@
 -- Quorums that leave no station of s in common: as many as s has stations are enough.
 -- Assumes nothing.
-use mathlib.Core.Path.{_≡_, refl, sym, ap, _∙_}
 use mathlib.Core.List.{List, [], _∷_}
 use mathlib.Core.Logic.{by-cases}
-use Prim.Native.Nat.{ℕ, zero, suc, _≤_, _<_, _^_, zero-le}
+use mathlib.Core.Path.{_≡_}
+use Prim.Native.Nat.{ℕ, _≤_, _<_, _^_, zero-le}
+use native.Mathlib.Decide.{ℕ-discrete}
 use native.Mathlib.Nat.{lt-of-le-of-lt}
 use native.Mathlib.Omega.{arith}
-use native.Mathlib.Decide.{ℕ-discrete}
-use lib.ListN.{length}
 use lib.Bits.{bitAnd, and-le-l}
+use lib.ListN.{length}
 use Rattle.stations.specs.Sets.{countBelow}
 use Rattle.stations.proofs.Counts.{count-fewer}
 use Rattle.quorum.specs.Family.{quorum, commonWithin, Numbers}

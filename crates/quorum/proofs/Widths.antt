@@ -1,21 +1,20 @@
 -- Width is the least number of quorums, repeats allowed, that have no common station; it never passes n.
 -- Assumes nothing.
-use mathlib.Core.Path.{_≡_, refl, sym, ap, _∙_}
 use mathlib.Core.Bool.{Bool, true, false, cond, or-false}
-use mathlib.Core.List.{List, [], _∷_}
-use mathlib.Core.Logic.{_⊎_, inl, inr, ⊎-elim, by-cases}
-use Prim.Native.Nat.{ℕ, zero, suc, _+_, _-_, _≤_, _<_, _^_, zero-le}
-use native.Mathlib.Nat.{le-trans}
-use native.Mathlib.Omega.{arith}
+use mathlib.Core.List.{List, []}
+use mathlib.Core.Logic.{by-cases}
+use mathlib.Core.Path.{_≡_, refl, _∙_}
+use Prim.Native.Nat.{ℕ, zero, suc, _+_, _≤_, _<_, zero-le}
 use native.Mathlib.Decide.{ℕ-discrete, decLt}
-use lib.Pow.{ones-lt, pow-lt}
+use native.Mathlib.Omega.{arith}
 use lib.ListN.{length}
+use lib.Pow.{ones-lt, pow-lt}
 use borrow.Author.Tests.{eq-eqb, eqb-true, ne-eqb}
 use Rattle.lists.specs.Search.{firstOf}
-use Rattle.lists.proofs.Tests.{clash, known, not-true-false}
-use Rattle.stations.specs.Sets.{everyone, countBelow}
+use Rattle.lists.proofs.Tests.{clash}
+use Rattle.stations.specs.Sets.{everyone}
 use Rattle.stations.proofs.Counts.{count-le}
-use Rattle.quorum.specs.Family.{commonWithin, emptyWithin, families, Family}
+use Rattle.quorum.specs.Family.{commonWithin, emptyWithin, families}
 use Rattle.quorum.specs.Need.{Emptying}
 use Rattle.quorum.specs.Width.{emptied, leastSize, width, firstFamily}
 use Rattle.quorum.proofs.Families.{First, first-family, any-family}

@@ -1,7 +1,7 @@
 -- Definition 4.1 of RR-2523, as document 01 reads it.
-use mathlib.Core.Path.{_≡_}
 use mathlib.Core.Bool.{true}
 use mathlib.Core.List.{List, [], _∷_}
+use mathlib.Core.Path.{_≡_}
 use Prim.Native.Nat.{ℕ, _+_, _<_}
 use lib.ListN.{length}
 use Rattle.stations.specs.Member.{member}

@@ -2,9 +2,9 @@
 use mathlib.Core.Bool.{Bool}
 use mathlib.Core.List.{List, [], _∷_, _++_, map}
 use Prim.Native.Nat.{ℕ, zero, suc, _≤_, _<_}
-use lib.ListN.{getD}
 use lib.Bits.{bitAnd}
 use lib.Dec.{eqb}
+use lib.ListN.{getD}
 use Rattle.stations.specs.Sets.{everyone}
 
 -- the quorum of a number

@@ -1,9 +1,9 @@
 -- The limits 1 to 4 of a table: its stations, its stock, its length and its quorums.
-use mathlib.Core.Bool.{Bool, true, false, cond, not, _&&_, _||_}
+use mathlib.Core.Bool.{Bool, cond, not, _&&_, _||_}
 use mathlib.Core.List.{List}
 use Prim.Native.Nat.{ℕ, _^_}
-use lib.ListN.{length}
 use lib.Dec.{leb, eqb}
+use lib.ListN.{length}
 use Rattle.lists.specs.Search.{any}
 
 -- "n stations, 1 to 12"

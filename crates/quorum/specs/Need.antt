@@ -1,11 +1,11 @@
 -- What a byte of scratch says while the check works: how many quorums it takes to leave no station of a set in common.
-use mathlib.Core.Path.{_≡_}
 use mathlib.Core.Bool.{cond}
 use mathlib.Core.List.{List, [], _∷_}
+use mathlib.Core.Path.{_≡_}
 use Prim.Native.Nat.{ℕ, suc, _+_, _^_, _≤_, _<_, min}
-use lib.ListN.{length, getD}
 use lib.Bits.{bitAnd}
 use lib.Dec.{eqb, ltb}
+use lib.ListN.{length, getD}
 use Rattle.quorum.specs.Family.{commonWithin, Numbers}
 
 -- the byte for a set that no quorums empty

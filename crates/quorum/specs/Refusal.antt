@@ -4,9 +4,9 @@ use mathlib.Core.List.{List}
 use Prim.Native.Nat.{ℕ}
 use lib.Dec.{eqb, ltb}
 use Rattle.quorum.specs.Limits.{brokenLimit}
-use Rattle.quorum.specs.Width.{lacksCommon}
 use Rattle.quorum.specs.Nested.{nested}
 use Rattle.quorum.specs.Scratch.{scratchBytes}
+use Rattle.quorum.specs.Width.{lacksCommon}
 
 -- "The check tests 1 to 7 in this order", 0 if it refuses nothing: 1 to 4 the limits, 5 "scratch below 4,096 bytes",
 -- 6 "no common member", 7 "nested"

@@ -1,9 +1,9 @@
 -- The scratch that a caller lends to the check.
-use mathlib.Core.Bool.{Bool, cond}
+use mathlib.Core.Bool.{cond}
 use mathlib.Core.List.{List, _++_}
 use Prim.Native.Nat.{ℕ}
-use lib.ListN.{length, drop, replicate}
 use lib.Dec.{ltb}
+use lib.ListN.{length, drop, replicate}
 
 -- "a lent scratch of 4,096 bytes or more"
 abbrev pub scratchBytes : ℕ

@@ -2,8 +2,8 @@
 use mathlib.Core.Bool.{Bool, cond, _&&_}
 use mathlib.Core.List.{List, []}
 use Prim.Native.Nat.{ℕ, zero, suc, _+_}
-use lib.ListN.{length}
 use lib.Dec.{leb}
+use lib.ListN.{length}
 use Rattle.lists.specs.Search.{any, firstOf}
 use Rattle.stations.specs.Sets.{everyone}
 use Rattle.quorum.specs.Family.{emptyWithin, families}

@@ -14,10 +14,10 @@ fn comparable_later(quorums: &[u16], p: usize) -> bool
     let mut q = p + 1;
     while q < quorums.len() {
         let other = quorums[q];
-        if stations::holds_all(quorum, other) {
+        if stations::contains(quorum, other) {
             return true;
         }
-        if stations::holds_all(other, quorum) {
+        if stations::contains(other, quorum) {
             return true;
         }
         q += 1;

@@ -1,14 +1,14 @@
 -- The number of members: never more than the stations, and less for a smaller set.
 -- Assumes nothing.
-use mathlib.Core.Path.{_≡_, refl, sym, ap, _∙_}
-use mathlib.Core.Bool.{Bool, true, false, _&&_, cond}
+use mathlib.Core.Bool.{Bool, true, false, cond}
 use mathlib.Core.Logic.{_⊎_, inl, inr, ⊎-elim, by-cases}
+use mathlib.Core.Path.{_≡_, refl, sym, _∙_}
 use Prim.Native.Nat.{ℕ, zero, suc, _+_, _^_, _≤_, _<_}
-use native.Mathlib.Omega.{arith}
 use native.Mathlib.Decide.{decLt}
-use lib.Bits.{bitAnd, and-le-l}
 use native.Mathlib.Nat.{lt-of-le-of-lt, add-comm, zero-add}
 use native.Mathlib.Numerals.{add-one}
+use native.Mathlib.Omega.{arith}
+use lib.Bits.{bitAnd, and-le-l}
 use Rattle.lists.proofs.Below.{below-suc}
 use Rattle.stations.specs.Member.{member}
 use Rattle.stations.specs.Sets.{countBelow}

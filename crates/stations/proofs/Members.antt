@@ -1,16 +1,16 @@
 -- What each operation on masks says of the membership of station i, for every i and every mask.
 -- Assumes nothing.
-use mathlib.Core.Path.{_≡_, refl, sym, ap, _∙_}
 use mathlib.Core.Bool.{Bool, true, false, _&&_, and-comm, and-self}
 use mathlib.Core.Logic.{_⊎_, inl, inr, ⊎-elim}
+use mathlib.Core.Path.{_≡_, refl, sym, ap, _∙_}
 use Prim.Native.Nat.{ℕ, zero, suc, _+_, _-_, _*_, _/_, _%_, _^_, _≤_, _<_, min}
 use native.Mathlib.Nat.{div-eq-of-lt, lt-of-lt-of-le, mod-eq-of-lt, div-lt-iff-lt-mul, div-one, zero-div, one-mul}
 use native.Mathlib.Numerals.{add-one, one-add}
 use native.Mathlib.Omega.{arith}
-use lib.Dec.{eqb, ltb}
 use lib.Arith.{bin-ind}
-use lib.Pow.{pow-mono, pow-lt, pow-pos, ones-lt, ones-split, high, low, shr-shr, split}
 use lib.Bits.{bitAnd, and-shr, and-mod, and-mask}
+use lib.Dec.{eqb, ltb}
+use lib.Pow.{pow-mono, pow-lt, pow-pos, ones-lt, ones-split, high, low, shr-shr}
 use borrow.Author.Tests.{eq-eqb, ne-eqb, eqb-true, ltb-true, ltb-false}
 use Rattle.lists.proofs.Tests.{known, clash, and-left, and-within}
 use Rattle.stations.specs.Member.{member}

@@ -1,9 +1,9 @@
 -- Sets of stations: all of them, one within another, how many, and the lowest from a station on.
 -- The common part of two sets is `bitAnd` of the library: `member-and` of the laws says so.
-use mathlib.Core.Bool.{Bool, true, false, cond}
+use mathlib.Core.Bool.{Bool, cond}
 use Prim.Native.Nat.{ℕ, zero, suc, _+_, _-_, _^_}
-use lib.Dec.{eqb}
 use lib.Bits.{bitAnd}
+use lib.Dec.{eqb}
 use Rattle.stations.specs.Member.{member}
 
 -- a set has room for the stations 0 to 15: "a 16-bit number"

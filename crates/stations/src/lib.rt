@@ -3,7 +3,7 @@ ghost use mathlib.Core.Path.{_≡_};
 ghost use Prim.Native.Nat.{min};
 ghost use lib.Bits.{bitAnd};
 ghost use Rattle.stations.specs.Member.{member};
-ghost use Rattle.stations.specs.Sets.{everyone as allOf, contains, countBelow, places, lowestFrom};
+ghost use Rattle.stations.specs.Sets.{everyone as allOf, contains as containsAll, countBelow, places, lowestFrom};
 
 // A mask has places for the stations 0 to 15.
 pub const PLACES: usize = 16;
@@ -36,8 +36,8 @@ pub fn common(a: u16, b: u16) -> u16
 }
 
 // Whether a contains or equals b.
-pub fn holds_all(a: u16, b: u16) -> bool
-    ensures { λ r. ⌜ r ≡ contains a b ⌝ }
+pub fn contains(a: u16, b: u16) -> bool
+    ensures { λ r. ⌜ r ≡ containsAll a b ⌝ }
 {
     a & b == b
 }

@@ -1,18 +1,10 @@
-use Rattle.quorum.specs.Answer.{said, answerTo}
-use mathlib.Core.Path.{_≡_, refl, sym, ap, _∙_}
-use mathlib.Core.Bool.{Bool, true, false, cond, not, _&&_, _||_}
-use mathlib.Core.List.{List, [], _∷_, _++_}
-use mathlib.Core.Logic.{⊎-elim}
-use Prim.Native.Nat.{ℕ, suc, _+_, _≤_, _<_, _-_, _^_}
-use native.Mathlib.Omega.{arith}
-use lib.ListN.{length, drop, getD, set, replicate, length-set}
+-- `quorum::answer_plain` meets its contract.
+-- Assumes nothing.
+use mathlib.Core.Path.{sym, _∙_}
 use borrow.Author.Needs.{needs}
+use Rattle.quorum.specs.Answer.{said, answerTo}
 use Rattle.quorum.proofs.answer_plain.Statement.{statement}
 use Rattle.quorum.proofs.answer_plain.Tie as tie
-use Rattle.quorum.proofs.answer_plain.Reads as reads
-use Rattle.quorum.proofs.answer_plain.Lts as lts
-use Rattle.quorum.proofs.even.evenness.Reads as evenness-reads
-use Rattle.quorum.proofs.nested.is_nested.Reads as is-nested-reads
 
 is-nested-requires : tie.Need-is-nested-requires
 is-nested-requires c κs = search needs

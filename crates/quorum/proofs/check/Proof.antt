@@ -1,21 +1,12 @@
+-- `quorum::check` meets its contract. The refusals 1 to 5 by the laws of `Judging`, the others by `judge`; the scratch by `clean`.
+-- Assumes nothing.
+use mathlib.Core.Path.{sym, _∙_}
+use lib.ListN.{length}
+use borrow.Author.Needs.{needs}
 use Rattle.quorum.proofs.Cleaning.{cleaned-short, cleaned-same}
 use Rattle.quorum.proofs.Judging.{limit-broken, scratch-short}
-use mathlib.Core.Path.{_≡_, refl, sym, ap, _∙_}
-use mathlib.Core.Bool.{Bool, true, false, cond, not, _&&_, _||_}
-use mathlib.Core.List.{List, [], _∷_, _++_}
-use mathlib.Core.Logic.{⊎-elim}
-use Prim.Native.Nat.{ℕ, suc, _+_, _≤_, _<_, _-_, _^_}
-use native.Mathlib.Omega.{arith}
-use lib.ListN.{length, drop, getD, set, replicate, length-set}
-use borrow.Author.Needs.{needs}
 use Rattle.quorum.proofs.check.Statement.{statement}
 use Rattle.quorum.proofs.check.Tie as tie
-use Rattle.quorum.proofs.check.Reads as reads
-use Rattle.quorum.proofs.check.Lts as lts
-use Rattle.quorum.proofs.judge.Reads as judge-reads
-use Rattle.quorum.proofs.limits.broken_limit.Reads as broken-limit-reads
-use Rattle.quorum.proofs.refused.Reads as refused-reads
-use Rattle.quorum.proofs.scratch.clean.Reads as clean-reads
 
 broken-limit-requires : tie.Need-broken-limit-requires
 broken-limit-requires c κs = search needs

@@ -1,24 +1,14 @@
-use Rattle.quorum.specs.Answer.{said}
-use Rattle.quorum.proofs.LimitLaws.{limits-kept}
-use Rattle.quorum.proofs.Judging.{width-found, byte-finite, six, seven-or-none}
-use Rattle.quorum.specs.Limits.{mostStations}
-use mathlib.Core.Path.{_≡_, refl, sym, ap, _∙_}
-use mathlib.Core.Bool.{Bool, true, false, cond, not, _&&_, _||_}
-use mathlib.Core.List.{List, [], _∷_, _++_}
-use mathlib.Core.Logic.{⊎-elim}
-use Prim.Native.Nat.{ℕ, suc, _+_, _≤_, _<_, _-_, _^_}
+-- `quorum::judge` meets its contract. What the calls promise is put together by the laws of `Judging`.
+-- Assumes nothing.
+use mathlib.Core.Path.{sym, _∙_}
 use native.Mathlib.Omega.{arith}
-use lib.ListN.{length, drop, getD, set, replicate, length-set}
+use lib.ListN.{length}
 use borrow.Author.Needs.{needs}
+use Rattle.quorum.specs.Answer.{said}
+use Rattle.quorum.proofs.Judging.{width-found, byte-finite, six, seven-or-none}
+use Rattle.quorum.proofs.LimitLaws.{limits-kept}
 use Rattle.quorum.proofs.judge.Statement.{statement}
 use Rattle.quorum.proofs.judge.Tie as tie
-use Rattle.quorum.proofs.judge.Reads as reads
-use Rattle.quorum.proofs.judge.Lts as lts
-use Rattle.quorum.proofs.answer_plain.Reads as answer-plain-reads
-use Rattle.quorum.proofs.family.first_family.Reads as first-family-reads
-use Rattle.quorum.proofs.lacks.Reads as lacks-reads
-use Rattle.quorum.proofs.need.fill.Reads as fill-reads
-use Rattle.quorum.proofs.width_of.Reads as width-of-reads
 
 fill-requires : tie.Need-fill-requires
 fill-requires c κs =

@@ -1,16 +1,9 @@
-use borrow.Author.Tests.{lt-leb, le-leb}
-use mathlib.Core.Path.{_≡_, refl, sym, ap, _∙_}
-use mathlib.Core.Bool.{Bool, true, false, cond, not, _&&_, _||_}
-use mathlib.Core.List.{List, [], _∷_, _++_}
-use mathlib.Core.Logic.{⊎-elim}
-use Prim.Native.Nat.{ℕ, suc, _+_, _≤_, _<_, _-_, _^_}
-use native.Mathlib.Omega.{arith}
-use lib.ListN.{length, drop, getD, set, replicate, length-set}
+-- `quorum::lacks` meets its contract.
+-- Assumes nothing.
 use borrow.Author.Needs.{needs}
+use borrow.Author.Tests.{lt-leb, le-leb}
 use Rattle.quorum.proofs.lacks.Statement.{statement}
 use Rattle.quorum.proofs.lacks.Tie as tie
-use Rattle.quorum.proofs.lacks.Reads as reads
-use Rattle.quorum.proofs.lacks.Lts as lts
 
 returns : tie.Need-returns
 returns c = rw (lt-leb 2 (c .before .args .width) (c .if1 .taken))

@@ -1,20 +1,15 @@
+-- `quorum::width_of` meets its contract. The byte of all n stations lies in the scratch, since 2^n is at most 4,096.
+-- Assumes nothing.
+use mathlib.Core.Path.{_∙_}
+use native.Mathlib.Omega.{arith}
+use lib.ListN.{getD}
+use borrow.Author.Needs.{needs}
 use borrow.Author.Tests.{eq-eqb, ne-eqb}
-use Rattle.quorum.specs.Need.{noNeed}
 use Rattle.stations.specs.Sets.{everyone}
 use Rattle.stations.proofs.Members.{everyone-le, everyone-min}
-use mathlib.Core.Path.{_≡_, refl, sym, ap, _∙_}
-use mathlib.Core.Bool.{Bool, true, false, cond, not, _&&_, _||_}
-use mathlib.Core.List.{List, [], _∷_, _++_}
-use mathlib.Core.Logic.{⊎-elim}
-use Prim.Native.Nat.{ℕ, suc, _+_, _≤_, _<_, _-_, _^_}
-use native.Mathlib.Omega.{arith}
-use lib.ListN.{length, drop, getD, set, replicate, length-set}
-use borrow.Author.Needs.{needs}
+use Rattle.quorum.specs.Need.{noNeed}
 use Rattle.quorum.proofs.width_of.Statement.{statement}
 use Rattle.quorum.proofs.width_of.Tie as tie
-use Rattle.quorum.proofs.width_of.Reads as reads
-use Rattle.quorum.proofs.width_of.Lts as lts
-use Rattle.stations.proofs.everyone.Reads as everyone-reads
 
 everyone-requires : tie.Need-everyone-requires
 everyone-requires c κs = search needs

@@ -1,7 +1,7 @@
 -- `stations::count` meets its contract. The loop's invariant: the members among the stations below i are counted.
 -- Assumes nothing.
-use mathlib.Core.Path.{_≡_, sym, ap, _∙_}
 use mathlib.Core.Logic.{⊎-elim}
+use mathlib.Core.Path.{_≡_, sym, ap, _∙_}
 use Prim.Native.Nat.{ℕ, _+_, _≤_, _-_}
 use native.Mathlib.Omega.{arith}
 use borrow.Author.Needs.{needs}
@@ -9,9 +9,6 @@ use Rattle.stations.specs.Sets.{countBelow, places}
 use Rattle.stations.proofs.Counts.{count-le, count-member, count-other}
 use Rattle.stations.proofs.count.Statement.{statement}
 use Rattle.stations.proofs.count.Tie as tie
-use Rattle.stations.proofs.count.Reads as reads
-use Rattle.stations.proofs.count.Lts as lts
-use Rattle.stations.proofs.has.Reads as has-reads
 
 abbrev Inv-loop : tie.InvT-loop
 Inv-loop q members₀ i₀ members i = (i ≤ places) × (members ≡ countBelow q i)

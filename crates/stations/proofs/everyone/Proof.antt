@@ -1,32 +1,25 @@
 -- `stations::everyone` meets its contract: one shifted by n, less one, is every station below n.
 -- Assumes nothing.
-use mathlib.Core.Path.{_≡_, sym, _∙_}
+use mathlib.Core.Path.{sym}
 use native.Mathlib.Omega.{arith}
 use lib.Pow.{pow-pos}
-use Rattle.stations.proofs.Members.{everyone-places, everyone-min, shifted-one}
 use borrow.Author.Needs.{needs}
+use Rattle.stations.proofs.Members.{everyone-places, everyone-min, shifted-one}
 use Rattle.stations.proofs.everyone.Statement.{statement}
 use Rattle.stations.proofs.everyone.Tie as tie
-use Rattle.stations.proofs.everyone.Reads as reads
-use Rattle.stations.proofs.everyone.Lts as lts
 
--- src/lib.rt:26:9
 returns : tie.Need-returns
 returns c = sym (everyone-places (c .before .args .n) (c .if1 .taken))
 
--- src/lib.rt:28:14
 cast-result : tie.Need-cast-result
 cast-result c = search needs
 
--- src/lib.rt:28:6
 shl-result : tie.Need-shl-result
 shl-result c = search needs
 
--- src/lib.rt:28:5
 sub-result : tie.Need-sub-result
 sub-result c = omega (arith, shifted-one (c .before .args .n) (c .if1 .left), pow-pos (c .before .args .n))
 
--- src/lib.rt:22:1
 returns-2 : tie.Need-returns-2
 returns-2 c = rw (shifted-one (c .before .args .n) (c .if1 .left)) (sym (everyone-min (c .before .args .n) (omega arith)))
 

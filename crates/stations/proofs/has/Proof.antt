@@ -2,7 +2,6 @@
 -- Assumes nothing.
 use mathlib.Core.Path.{sym}
 use borrow.Author.Needs.{needs}
-use native.Mathlib.Omega.{arith}
 use Rattle.stations.specs.Member.{member}
 use Rattle.stations.proofs.Members.{member-below}
 use Rattle.stations.proofs.has.Statement.{statement}

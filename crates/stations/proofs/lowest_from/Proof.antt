@@ -1,16 +1,13 @@
 -- `stations::lowest_from` meets its contract. The loop's invariant: the lowest from i on is the lowest from the start.
 -- Assumes nothing.
 use mathlib.Core.Path.{_≡_, sym, _∙_}
-use Prim.Native.Nat.{_≤_, _-_}
+use Prim.Native.Nat.{_-_}
 use native.Mathlib.Omega.{arith}
 use borrow.Author.Needs.{needs}
 use Rattle.stations.specs.Sets.{lowestFrom, places}
 use Rattle.stations.proofs.Lowest.{lowest-here, lowest-later, lowest-end}
 use Rattle.stations.proofs.lowest_from.Statement.{statement}
 use Rattle.stations.proofs.lowest_from.Tie as tie
-use Rattle.stations.proofs.lowest_from.Reads as reads
-use Rattle.stations.proofs.lowest_from.Lts as lts
-use Rattle.stations.proofs.has.Reads as has-reads
 
 abbrev Inv-loop : tie.InvT-loop
 Inv-loop q from i₀ i = lowestFrom q i ≡ lowestFrom q from

@@ -1,21 +1,17 @@
+-- `quorum::even::evenness` meets its contract. The loop's invariant: every station below i belongs to as many quorums as station 0.
+-- Assumes nothing.
+use mathlib.Core.Bool.{true, false}
+use mathlib.Core.Path.{_≡_, sym, _∙_}
+use Prim.Native.Nat.{ℕ, _≤_, _<_, _-_}
+use native.Mathlib.Omega.{arith}
 use lib.Dec.{eqb}
 use borrow.Author.Count.{below-none, below-more}
+use borrow.Author.Needs.{needs}
 use borrow.Author.Tests.{eq-eqb, ne-eqb}
 use Rattle.lists.proofs.Searches.{every-true, every-false}
 use Rattle.quorum.specs.Even.{belongs, even}
-use mathlib.Core.Path.{_≡_, refl, sym, ap, _∙_}
-use mathlib.Core.Bool.{Bool, true, false, cond, not, _&&_, _||_}
-use mathlib.Core.List.{List, [], _∷_, _++_}
-use mathlib.Core.Logic.{⊎-elim}
-use Prim.Native.Nat.{ℕ, suc, _+_, _≤_, _<_, _-_, _^_}
-use native.Mathlib.Omega.{arith}
-use lib.ListN.{length, drop, getD, set, replicate, length-set}
-use borrow.Author.Needs.{needs}
 use Rattle.quorum.proofs.even.evenness.Statement.{statement}
 use Rattle.quorum.proofs.even.evenness.Tie as tie
-use Rattle.quorum.proofs.even.evenness.Reads as reads
-use Rattle.quorum.proofs.even.evenness.Lts as lts
-use Rattle.quorum.proofs.even.quorums_of.Reads as quorums-of-reads
 
 abbrev Inv-loop : tie.InvT-loop
 Inv-loop n quorums first i₀ i =

@@ -1,18 +1,15 @@
+-- `quorum::even::quorums_of` meets its contract. The loop's invariant: the quorums counted and those from p on add up to all.
+-- Assumes nothing.
+use mathlib.Core.Logic.{⊎-elim}
+use mathlib.Core.Path.{_≡_, sym, _∙_}
+use Prim.Native.Nat.{_+_, _≤_, _-_}
+use native.Mathlib.Omega.{arith}
+use lib.ListN.{length, drop}
+use borrow.Author.Needs.{needs}
 use Rattle.quorum.specs.Even.{belongs}
 use Rattle.quorum.proofs.Evenness.{belongs-member, belongs-other, belongs-end}
-use mathlib.Core.Path.{_≡_, refl, sym, ap, _∙_}
-use mathlib.Core.Bool.{Bool, true, false, cond, not, _&&_, _||_}
-use mathlib.Core.List.{List, [], _∷_, _++_}
-use mathlib.Core.Logic.{⊎-elim}
-use Prim.Native.Nat.{ℕ, suc, _+_, _≤_, _<_, _-_, _^_}
-use native.Mathlib.Omega.{arith}
-use lib.ListN.{length, drop, getD, set, replicate, length-set}
-use borrow.Author.Needs.{needs}
 use Rattle.quorum.proofs.even.quorums_of.Statement.{statement}
 use Rattle.quorum.proofs.even.quorums_of.Tie as tie
-use Rattle.quorum.proofs.even.quorums_of.Reads as reads
-use Rattle.quorum.proofs.even.quorums_of.Lts as lts
-use Rattle.stations.proofs.has.Reads as has-reads
 
 abbrev Inv-loop : tie.InvT-loop
 Inv-loop quorums i count₀ p₀ count p =

@@ -1,8 +1,8 @@
--- `quorum::family::first_family` meets its contract. The loop's invariant is `Taking`.
+-- `quorum::family::first_family` meets its contract. The loop's invariant is `Taking`: what is taken, and what will be, are the lowering quorums.
 -- Assumes nothing.
-use mathlib.Core.Path.{_≡_, refl, sym, ap, _∙_}
 use mathlib.Core.Logic.{⊎-elim}
-use Prim.Native.Nat.{ℕ, _+_, _-_, _≤_, _<_, _^_}
+use mathlib.Core.Path.{refl, _∙_}
+use Prim.Native.Nat.{_-_}
 use native.Mathlib.Omega.{arith}
 use lib.Bits.{and-le-l}
 use lib.ListN.{length, getD}
@@ -12,10 +12,6 @@ use Rattle.stations.proofs.Members.{everyone-min}
 use Rattle.quorum.proofs.Taking.{Taking, taking-none, taking-room, taking-takes, taking-skips, taking-all}
 use Rattle.quorum.proofs.family.first_family.Statement.{statement}
 use Rattle.quorum.proofs.family.first_family.Tie as tie
-use Rattle.quorum.proofs.family.first_family.Reads as reads
-use Rattle.quorum.proofs.family.first_family.Lts as lts
-use Rattle.stations.proofs.common.Reads as common-reads
-use Rattle.stations.proofs.everyone.Reads as everyone-reads
 
 abbrev Inv-loop : tie.InvT-loop
 Inv-loop n quorums bytes family₀ size₀ rest₀ p₀ family size rest p = Taking n quorums bytes family size rest p

@@ -1,21 +1,13 @@
+-- `quorum::limits::broken_limit` meets its contract. Each return rewrites the definition with the tests that led there.
+-- Assumes nothing.
+use mathlib.Core.Path.{sym, _∙_}
 use lib.Dec.{leb}
+use borrow.Author.Needs.{needs}
 use borrow.Author.Tests.{not-true, not-false, leb-true}
 use Rattle.lists.proofs.Tests.{and-right}
 use Rattle.quorum.specs.Limits.{brokenLimit, mostStations}
-use mathlib.Core.Path.{_≡_, refl, sym, ap, _∙_}
-use mathlib.Core.Bool.{Bool, true, false, cond, not, _&&_, _||_}
-use mathlib.Core.List.{List, [], _∷_, _++_}
-use mathlib.Core.Logic.{⊎-elim}
-use Prim.Native.Nat.{ℕ, suc, _+_, _≤_, _<_, _-_, _^_}
-use native.Mathlib.Omega.{arith}
-use lib.ListN.{length, drop, getD, set, replicate, length-set}
-use borrow.Author.Needs.{needs}
 use Rattle.quorum.proofs.limits.broken_limit.Statement.{statement}
 use Rattle.quorum.proofs.limits.broken_limit.Tie as tie
-use Rattle.quorum.proofs.limits.broken_limit.Reads as reads
-use Rattle.quorum.proofs.limits.broken_limit.Lts as lts
-use Rattle.quorum.proofs.limits.has_bad_quorum.Reads as has-bad-quorum-reads
-use Rattle.quorum.proofs.limits.up_to.Reads as up-to-reads
 
 up-to-requires : tie.Need-up-to-requires
 up-to-requires c κs = search needs

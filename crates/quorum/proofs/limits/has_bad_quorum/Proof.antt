@@ -1,25 +1,21 @@
+-- `quorum::limits::has_bad_quorum` meets its contract. The loop's invariant: from p on the table has a bad quorum exactly when it has one at all.
+-- Assumes nothing.
+use mathlib.Core.Path.{_≡_, refl, sym, _∙_}
+use Prim.Native.Nat.{_≤_, _-_, _^_}
+use native.Mathlib.Omega.{arith}
 use lib.Dec.{eqb}
+use lib.ListN.{length, drop, getD}
 use lib.Pow.{suc-ones}
+use borrow.Author.Needs.{needs}
 use borrow.Author.Tests.{eq-eqb, ne-eqb, le-leb, lt-leb}
-use Rattle.lists.proofs.Tests.{or-left, or-right}
 use Rattle.lists.specs.Search.{any}
 use Rattle.lists.proofs.Searches.{any-here, any-later, any-end}
+use Rattle.lists.proofs.Tests.{or-left, or-right}
 use Rattle.stations.specs.Sets.{everyone}
 use Rattle.stations.proofs.Members.{everyone-min}
 use Rattle.quorum.specs.Limits.{outOfPlace}
-use mathlib.Core.Path.{_≡_, refl, sym, ap, _∙_}
-use mathlib.Core.Bool.{Bool, true, false, cond, not, _&&_, _||_}
-use mathlib.Core.List.{List, [], _∷_, _++_}
-use mathlib.Core.Logic.{⊎-elim}
-use Prim.Native.Nat.{ℕ, suc, _+_, _≤_, _<_, _-_, _^_}
-use native.Mathlib.Omega.{arith}
-use lib.ListN.{length, drop, getD, set, replicate, length-set}
-use borrow.Author.Needs.{needs}
 use Rattle.quorum.proofs.limits.has_bad_quorum.Statement.{statement}
 use Rattle.quorum.proofs.limits.has_bad_quorum.Tie as tie
-use Rattle.quorum.proofs.limits.has_bad_quorum.Reads as reads
-use Rattle.quorum.proofs.limits.has_bad_quorum.Lts as lts
-use Rattle.stations.proofs.everyone.Reads as everyone-reads
 
 abbrev Inv-loop : tie.InvT-loop
 Inv-loop n quorums top p₀ p =

@@ -1,16 +1,8 @@
+-- `quorum::limits::up_to` meets its contract.
+-- Assumes nothing.
 use borrow.Author.Tests.{lt-leb, le-leb}
-use mathlib.Core.Path.{_≡_, refl, sym, ap, _∙_}
-use mathlib.Core.Bool.{Bool, true, false, cond, not, _&&_, _||_}
-use mathlib.Core.List.{List, [], _∷_, _++_}
-use mathlib.Core.Logic.{⊎-elim}
-use Prim.Native.Nat.{ℕ, suc, _+_, _≤_, _<_, _-_, _^_}
-use native.Mathlib.Omega.{arith}
-use lib.ListN.{length, drop, getD, set, replicate, length-set}
-use borrow.Author.Needs.{needs}
 use Rattle.quorum.proofs.limits.up_to.Statement.{statement}
 use Rattle.quorum.proofs.limits.up_to.Tie as tie
-use Rattle.quorum.proofs.limits.up_to.Reads as reads
-use Rattle.quorum.proofs.limits.up_to.Lts as lts
 
 returns : tie.Need-returns
 returns c = rw (lt-leb 1 (c .before .args .x) (c .if1 .taken))

@@ -1,5 +1,7 @@
-use mathlib.Core.Path.{_≡_, refl, sym, ap, _∙_}
-use Prim.Native.Nat.{ℕ, _+_, _≤_, _<_, _-_, _^_}
+-- `quorum::need::fill` meets its contract. The loop's invariant: the byte of every smaller set says what that set needs, and nothing beyond the 4,096 bytes has changed.
+-- Assumes nothing.
+use mathlib.Core.Path.{_≡_, refl, _∙_}
+use Prim.Native.Nat.{ℕ, _+_, _≤_, _<_, _-_}
 use native.Mathlib.Omega.{arith}
 use lib.ListN.{length, drop, getD, set, length-set}
 use lib.Pow.{suc-ones}
@@ -7,15 +9,11 @@ use lib.Seq.{drop-set-lt}
 use borrow.Author.Needs.{needs}
 use Rattle.stations.specs.Sets.{everyone}
 use Rattle.stations.proofs.Members.{everyone-le, everyone-min}
+use Rattle.quorum.specs.Need.{Need, noNeed}
 use Rattle.quorum.specs.Scratch.{scratchBytes}
-use Rattle.quorum.specs.Need.{Need, noNeed, leastByte, oneMore}
 use Rattle.quorum.proofs.Needing.{filled-zero, filled-next}
 use Rattle.quorum.proofs.need.fill.Statement.{statement}
 use Rattle.quorum.proofs.need.fill.Tie as tie
-use Rattle.quorum.proofs.need.fill.Reads as reads
-use Rattle.quorum.proofs.need.fill.Lts as lts
-use Rattle.quorum.proofs.need.through_one.Reads as through-one-reads
-use Rattle.stations.proofs.everyone.Reads as everyone-reads
 
 abbrev Inv-loop : tie.InvT-loop
 Inv-loop n quorums scratch₀ top set₀ scratch set =
@@ -27,15 +25,12 @@ Inv-loop n quorums scratch₀ top set₀ scratch set =
 abbrev μ-loop : tie.MeasureT-loop
 μ-loop n quorums scratch₀ top set₀ scratch set = top + 1 - set
 
--- src/need.rt:40:9
 everyone-requires : tie.Need-everyone-requires Inv-loop μ-loop
 everyone-requires c κs = search needs
 
--- src/need.rt:41:5
 slice-write-scratch : tie.Need-slice-write-scratch Inv-loop μ-loop
 slice-write-scratch c = search needs
 
--- src/need.rt:43:5
 loop-holds : tie.Need-loop-holds Inv-loop μ-loop
 loop-holds c =
     let start = c .before .before .before in
@@ -50,31 +45,24 @@ loop-holds c =
       filled-zero (start .args .n) (start .args .quorums .now) (omega arith) (start .args .scratch .now) (omega arith),
     )
 
--- src/need.rt:44:18
 cast-at : tie.Need-cast-at Inv-loop μ-loop
 cast-at c = search needs
 
--- src/need.rt:45:9
 slice-write-scratch-2 : tie.Need-slice-write-scratch-2 Inv-loop μ-loop
 slice-write-scratch-2 c = search needs
 
--- src/need.rt:46:13
 through-one-requires : tie.Need-through-one-requires Inv-loop μ-loop
 through-one-requires c κs = simp length-set (search needs)
 
--- src/need.rt:47:9
 slice-write-scratch-3 : tie.Need-slice-write-scratch-3 Inv-loop μ-loop
 slice-write-scratch-3 c = simp length-set (search needs)
 
--- src/need.rt:48:9
 add-set : tie.Need-add-set Inv-loop μ-loop
 add-set c = search needs
 
--- src/need.rt:43:5
 loop-less : tie.Need-loop-less Inv-loop μ-loop
 loop-less c = search needs
 
--- src/need.rt:43:5
 loop-again : tie.Need-loop-again Inv-loop μ-loop
 loop-again c =
     let start = c .before .before .before .before .before .before .before in
@@ -92,11 +80,9 @@ loop-again c =
           (omega arith) (omega (arith, suc-ones (start .args .n))) (omega arith) (c .through-one .ensures) (at .inv .7),
     )
 
--- src/need.rt:35:1
 same-length : tie.Need-same-length Inv-loop μ-loop
 same-length c = c .before .loop .inv .5 ∙ simp length-set
 
--- src/need.rt:35:1
 returns : tie.Need-returns Inv-loop μ-loop
 returns c =
     let start = c .before .before .before .before .before in

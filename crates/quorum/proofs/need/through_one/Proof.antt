@@ -1,18 +1,17 @@
-use mathlib.Core.Path.{_≡_, sym, ap, _∙_}
+-- `quorum::need::through_one` meets its contract. The loop's invariant: the least byte from p on, with what was found before, is the least of all.
+-- Assumes nothing.
 use mathlib.Core.Logic.{⊎-elim}
+use mathlib.Core.Path.{_≡_, sym, ap, _∙_}
 use Prim.Native.Nat.{ℕ, _+_, _≤_, _-_, min}
 use native.Mathlib.Omega.{arith}
-use lib.ListN.{length, drop, getD}
 use lib.Bits.{bitAnd, and-le-l}
-use Rattle.quorum.proofs.Needing.{least-next, least-end}
+use lib.ListN.{length, drop, getD}
 use borrow.Author.Needs.{needs}
 use borrow.Author.Tests.{eq-eqb, ne-eqb}
-use Rattle.quorum.specs.Need.{noNeed, leastByte, oneMore}
+use Rattle.quorum.specs.Need.{noNeed, leastByte}
+use Rattle.quorum.proofs.Needing.{least-next, least-end}
 use Rattle.quorum.proofs.need.through_one.Statement.{statement}
 use Rattle.quorum.proofs.need.through_one.Tie as tie
-use Rattle.quorum.proofs.need.through_one.Reads as reads
-use Rattle.quorum.proofs.need.through_one.Lts as lts
-use Rattle.stations.proofs.common.Reads as common-reads
 
 abbrev Inv-loop : tie.InvT-loop
 Inv-loop set quorums bytes least₀ p₀ least p =
@@ -21,42 +20,33 @@ Inv-loop set quorums bytes least₀ p₀ least p =
 abbrev μ-loop : tie.MeasureT-loop
 μ-loop set quorums bytes least₀ p₀ least p = length quorums - p
 
--- src/need.rt:19:5
 loop-holds : tie.Need-loop-holds Inv-loop μ-loop
 loop-holds c = search needs
 
--- src/need.rt:20:42
 mul-common : tie.Need-mul-common Inv-loop μ-loop
 mul-common c = search needs
 
--- src/need.rt:20:42
 shared-slice-read-common : tie.Need-shared-slice-read-common Inv-loop μ-loop
 shared-slice-read-common c = search needs
 
--- src/need.rt:20:20
 common-requires : tie.Need-common-requires Inv-loop μ-loop
 common-requires c κs = search needs
 
--- src/need.rt:20:20
 cast-left : tie.Need-cast-left Inv-loop μ-loop
 cast-left c = search needs
 
--- src/need.rt:21:20
 shared-slice-read-byte : tie.Need-shared-slice-read-byte Inv-loop μ-loop
 shared-slice-read-byte c =
     let start = c .before .before .before .before .before .before .before .args in
     let at = c .before .before .before .before .loop in
     omega (arith, and-le-l (start .set) (getD (start .quorums .now) (at .p) 0))
 
--- src/need.rt:25:9
 add-p : tie.Need-add-p Inv-loop μ-loop
 add-p c = search needs
 
--- src/need.rt:19:5
 loop-less : tie.Need-loop-less Inv-loop μ-loop
 loop-less c = search needs
 
--- src/need.rt:19:5
 loop-again : tie.Need-loop-again Inv-loop μ-loop
 loop-again c =
     let start = c .before .before .before .before .before .before .before .before .args in
@@ -69,7 +59,6 @@ loop-again c =
     ⊎-elim (λ w. omega arith) (λ w. omega arith) (c .if1 .came) in
     (search needs, omega arith, ap (λ (b : ℕ). leastByte bytes (start .set) b (drop (at .p + 1) table)) next ∙ sym (least-next bytes (start .set) (at .least) table (at .p) (omega arith)) ∙ at .inv .2)
 
--- src/need.rt:28:9
 returns : tie.Need-returns Inv-loop μ-loop
 returns c =
     let start = c .before .before .before .before .before .args in
@@ -77,11 +66,9 @@ returns c =
     let all = sym (at .inv .2) ∙ least-end (start .bytes .now) (start .set) (at .least) (start .quorums .now) (at .p) (omega arith) in
     rw (all, eq-eqb (at .least) noNeed (c .if2 .taken))
 
--- src/need.rt:30:5
 add-result : tie.Need-add-result Inv-loop μ-loop
 add-result c = search needs
 
--- src/need.rt:13:1
 returns-2 : tie.Need-returns-2 Inv-loop μ-loop
 returns-2 c =
     let start = c .before .before .before .before .before .args in

@@ -1,21 +1,17 @@
-use Rattle.lists.proofs.Tests.{or-left, or-right}
-use Rattle.stations.specs.Sets.{contains}
+-- `quorum::nested::comparable_later` meets its contract. The loop's invariant: from q on there is a comparable quorum exactly when there is a later one at all.
+-- Assumes nothing.
+use mathlib.Core.Path.{_≡_, sym, _∙_}
+use Prim.Native.Nat.{_+_, _≤_, _-_}
+use native.Mathlib.Omega.{arith}
+use lib.ListN.{length, drop, getD}
+use borrow.Author.Needs.{needs}
 use Rattle.lists.specs.Search.{any}
 use Rattle.lists.proofs.Searches.{any-here, any-later, any-end}
+use Rattle.lists.proofs.Tests.{or-left, or-right}
+use Rattle.stations.specs.Sets.{contains}
 use Rattle.quorum.specs.Nested.{comparable}
-use mathlib.Core.Path.{_≡_, refl, sym, ap, _∙_}
-use mathlib.Core.Bool.{Bool, true, false, cond, not, _&&_, _||_}
-use mathlib.Core.List.{List, [], _∷_, _++_}
-use mathlib.Core.Logic.{⊎-elim}
-use Prim.Native.Nat.{ℕ, suc, _+_, _≤_, _<_, _-_, _^_}
-use native.Mathlib.Omega.{arith}
-use lib.ListN.{length, drop, getD, set, replicate, length-set}
-use borrow.Author.Needs.{needs}
 use Rattle.quorum.proofs.nested.comparable_later.Statement.{statement}
 use Rattle.quorum.proofs.nested.comparable_later.Tie as tie
-use Rattle.quorum.proofs.nested.comparable_later.Reads as reads
-use Rattle.quorum.proofs.nested.comparable_later.Lts as lts
-use Rattle.stations.proofs.holds_all.Reads as holds-all-reads
 
 abbrev Inv-loop : tie.InvT-loop
 Inv-loop quorums p quorum q₀ q =
@@ -42,8 +38,8 @@ mul-other c = search needs
 shared-slice-read-other : tie.Need-shared-slice-read-other Inv-loop μ-loop
 shared-slice-read-other c = search needs
 
-holds-all-requires : tie.Need-holds-all-requires Inv-loop μ-loop
-holds-all-requires c κs = search needs
+contains-requires : tie.Need-contains-requires Inv-loop μ-loop
+contains-requires c κs = search needs
 
 returns : tie.Need-returns Inv-loop μ-loop
 returns c =
@@ -52,10 +48,10 @@ returns c =
     let quorum = getD table (c .before .before .before .before .before .before .before .args .p) 0 in
     let other = getD table (at .q) 0 in
     sym (sym (at .inv .1) ∙ any-here (comparable quorum) 0 table (at .q) (omega arith)
-    (or-left (contains quorum other) (contains other quorum) (sym (c .before .holds-all .ensures) ∙ c .if1 .taken)))
+    (or-left (contains quorum other) (contains other quorum) (sym (c .before .contains .ensures) ∙ c .if1 .taken)))
 
-holds-all-requires-2 : tie.Need-holds-all-requires-2 Inv-loop μ-loop
-holds-all-requires-2 c κs = search needs
+contains-requires-2 : tie.Need-contains-requires-2 Inv-loop μ-loop
+contains-requires-2 c κs = search needs
 
 returns-2 : tie.Need-returns-2 Inv-loop μ-loop
 returns-2 c =
@@ -64,7 +60,7 @@ returns-2 c =
     let quorum = getD table (c .before .before .before .before .before .before .before .before .before .args .p) 0 in
     let other = getD table (at .q) 0 in
     sym (sym (at .inv .1) ∙ any-here (comparable quorum) 0 table (at .q) (omega arith)
-    (or-right (contains quorum other) (contains other quorum) (sym (c .before .holds-all2 .ensures) ∙ c .if2 .taken)))
+    (or-right (contains quorum other) (contains other quorum) (sym (c .before .contains2 .ensures) ∙ c .if2 .taken)))
 
 add-q-2 : tie.Need-add-q-2 Inv-loop μ-loop
 add-q-2 c = search needs
@@ -78,8 +74,8 @@ loop-again c =
     let table = c .before .before .before .before .before .before .before .before .before .args .quorums .now in
     let quorum = getD table (c .before .before .before .before .before .before .before .before .before .args .p) 0 in
     let other = getD table (at .q) 0 in
-    let first = sym (c .before .before .before .holds-all .ensures) ∙ c .before .before .if1 .left in
-    let second = sym (c .before .holds-all2 .ensures) ∙ c .if2 .left in
+    let first = sym (c .before .before .before .contains .ensures) ∙ c .before .before .if1 .left in
+    let second = sym (c .before .contains2 .ensures) ∙ c .if2 .left in
     (search needs, sym (any-later (comparable quorum) 0 table (at .q) (omega arith) (rw (first, second))) ∙ at .inv .1)
 
 returns-3 : tie.Need-returns-3 Inv-loop μ-loop
@@ -100,9 +96,9 @@ comparable-later-spec =
     loop-holds
     mul-other
     shared-slice-read-other
-    holds-all-requires
+    contains-requires
     returns
-    holds-all-requires-2
+    contains-requires-2
     returns-2
     add-q-2
     loop-less

@@ -1,18 +1,14 @@
+-- `quorum::nested::is_nested` meets its contract. The loop's invariant: from p on the table is nested exactly when it is nested.
+-- Assumes nothing.
+use mathlib.Core.Path.{_≡_, sym, _∙_}
+use Prim.Native.Nat.{_≤_, _-_}
+use native.Mathlib.Omega.{arith}
+use lib.ListN.{length, drop}
+use borrow.Author.Needs.{needs}
 use Rattle.quorum.specs.Nested.{nested}
 use Rattle.quorum.proofs.Minimality.{nested-here, nested-later, nested-end}
-use mathlib.Core.Path.{_≡_, refl, sym, ap, _∙_}
-use mathlib.Core.Bool.{Bool, true, false, cond, not, _&&_, _||_}
-use mathlib.Core.List.{List, [], _∷_, _++_}
-use mathlib.Core.Logic.{⊎-elim}
-use Prim.Native.Nat.{ℕ, suc, _+_, _≤_, _<_, _-_, _^_}
-use native.Mathlib.Omega.{arith}
-use lib.ListN.{length, drop, getD, set, replicate, length-set}
-use borrow.Author.Needs.{needs}
 use Rattle.quorum.proofs.nested.is_nested.Statement.{statement}
 use Rattle.quorum.proofs.nested.is_nested.Tie as tie
-use Rattle.quorum.proofs.nested.is_nested.Reads as reads
-use Rattle.quorum.proofs.nested.is_nested.Lts as lts
-use Rattle.quorum.proofs.nested.comparable_later.Reads as comparable-later-reads
 
 abbrev Inv-loop : tie.InvT-loop
 Inv-loop quorums p₀ p =

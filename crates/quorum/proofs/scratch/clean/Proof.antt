@@ -1,18 +1,16 @@
-use Rattle.quorum.proofs.Cleaning.{cleaned-short, cleaned-long}
-use borrow.Author.Fill.{fill-none, fill-more}
-use Rattle.quorum.specs.Scratch.{scratchBytes, cleaned}
-use mathlib.Core.Path.{_≡_, refl, sym, ap, _∙_}
-use mathlib.Core.Bool.{Bool, true, false, cond, not, _&&_, _||_}
-use mathlib.Core.List.{List, [], _∷_, _++_}
-use mathlib.Core.Logic.{⊎-elim}
-use Prim.Native.Nat.{ℕ, suc, _+_, _≤_, _<_, _-_, _^_}
+-- `quorum::scratch::clean` meets its contract. The loop's invariant: zeros up to i, and the rest as it was.
+-- Assumes nothing.
+use mathlib.Core.List.{List, _++_}
+use mathlib.Core.Path.{_≡_, sym, ap, _∙_}
+use Prim.Native.Nat.{ℕ, _≤_, _-_}
 use native.Mathlib.Omega.{arith}
-use lib.ListN.{length, drop, getD, set, replicate, length-set}
+use lib.ListN.{length, drop, set, replicate, length-set}
+use borrow.Author.Fill.{fill-more}
 use borrow.Author.Needs.{needs}
+use Rattle.quorum.specs.Scratch.{scratchBytes}
+use Rattle.quorum.proofs.Cleaning.{cleaned-short, cleaned-long}
 use Rattle.quorum.proofs.scratch.clean.Statement.{statement}
 use Rattle.quorum.proofs.scratch.clean.Tie as tie
-use Rattle.quorum.proofs.scratch.clean.Reads as reads
-use Rattle.quorum.proofs.scratch.clean.Lts as lts
 
 abbrev Inv-loop : tie.InvT-loop
 Inv-loop scratch₀ i₀ scratch i =

@@ -1,0 +1,10 @@
+// Runs the examples of document 01 and prints what each answers, one line an example.
+mod marked;
+mod refusals;
+mod report;
+mod table;
+
+fn main() {
+    marked::tables();
+    refusals::tables();
+}

@@ -1,0 +1,70 @@
+// One table through the check.
+use crate::report;
+
+// The bytes of the scratch before a check: none of them is 0.
+const BEFORE: u8 = 7;
+
+fn print_family(checked: quorum::Checked) {
+    let size = checked.size;
+    if size == 0 {
+        return;
+    }
+    report::text(b" family=");
+    let mut i: usize = 0;
+    while i < 12 {
+        if i < size {
+            let number = checked.family[i] as usize;
+            report::number(b"", number);
+            if i + 1 < size {
+                report::text(b" ");
+            }
+        }
+        i += 1;
+    }
+}
+
+// How many bytes of the scratch are `byte`.
+fn count(scratch: &[u8], byte: u8) -> usize {
+    let mut found: usize = 0;
+    let mut i: usize = 0;
+    while i < scratch.len() {
+        if scratch[i] == byte {
+            found += 1;
+        }
+        i += 1;
+    }
+    found
+}
+
+fn print_scratch(scratch: &[u8]) {
+    report::number(b" zeros=", count(scratch, 0));
+    report::number(b" kept=", count(scratch, BEFORE));
+    report::text(b"\n");
+}
+
+fn print_answer(checked: quorum::Checked) {
+    report::number(b" table=", checked.refusal as usize);
+    report::number(b" width=", checked.width);
+    report::number(b" even=", checked.even as usize);
+    print_family(checked);
+}
+
+// Checks the table on the scratch and prints the answer, then how many bytes of the scratch are
+// zeros and how many are as they were.
+fn check_with(scratch: &mut [u8], n: usize, k: usize, quorums: &[u16]) {
+    let checked = quorum::check(n, k, quorums, scratch);
+    print_answer(checked);
+    print_scratch(scratch);
+}
+
+// On 5,000 bytes of scratch, more than the check asks for.
+pub(crate) fn check(n: usize, k: usize, quorums: &[u16]) {
+    let mut scratch = [BEFORE; 5000];
+    check_with(&mut scratch, n, k, quorums);
+}
+
+// On 4,095 bytes of scratch, one byte too few.
+pub(crate) fn check_short(n: usize, k: usize, quorums: &[u16]) {
+    let mut scratch = [BEFORE; 4095];
+    check_with(&mut scratch, n, k, quorums);
+}
