@@ -6,17 +6,17 @@ use Prim.Native.Nat.{ℕ, _≤_, _<_}
 use native.Mathlib.Omega.{arith}
 use lib.ListN.{length, drop, replicate}
 use borrow.Author.Tests.{lt-ltb, le-ltb}
-use Rattle.quorum.specs.Scratch.{scratchBytes, cleaned}
+use Rattle.quorum.specs.Scratch.{zeroed}
 
-pub cleaned-short : (s : List ℕ) → length s < scratchBytes → cleaned s ≡ s
-unfolding cleaned
-cleaned-short s h = rw (lt-ltb (length s) scratchBytes h)
+pub zeroed-short : (bytes : ℕ) (s : List ℕ) → length s < bytes → zeroed bytes s ≡ s
+unfolding zeroed
+zeroed-short bytes s h = rw (lt-ltb (length s) bytes h)
 
-pub cleaned-long : (s : List ℕ) → scratchBytes ≤ length s → cleaned s ≡ replicate scratchBytes 0 ++ drop scratchBytes s
-unfolding cleaned
-cleaned-long s h = rw (le-ltb (length s) scratchBytes h)
+pub zeroed-long : (bytes : ℕ) (s : List ℕ) → bytes ≤ length s → zeroed bytes s ≡ replicate bytes 0 ++ drop bytes s
+unfolding zeroed
+zeroed-long bytes s h = rw (le-ltb (length s) bytes h)
 
--- what was written in the first 4,096 bytes is gone
-pub cleaned-same : (s t : List ℕ) → length t ≡ length s → scratchBytes ≤ length s → drop scratchBytes t ≡ drop scratchBytes s → cleaned t ≡ cleaned s
-cleaned-same s t size h e =
-    cleaned-long t (omega arith) ∙ ap (λ (l : List ℕ). replicate scratchBytes 0 ++ l) e ∙ sym (cleaned-long s h)
+-- what was written in the first bytes is gone
+pub zeroed-same : (bytes : ℕ) (s t : List ℕ) → length t ≡ length s → bytes ≤ length s → drop bytes t ≡ drop bytes s → zeroed bytes t ≡ zeroed bytes s
+zeroed-same bytes s t size h e =
+    zeroed-long bytes t (omega arith) ∙ ap (λ (l : List ℕ). replicate bytes 0 ++ l) e ∙ sym (zeroed-long bytes s h)

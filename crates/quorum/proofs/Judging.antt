@@ -14,12 +14,13 @@ use Rattle.lists.specs.Search.{any}
 use Rattle.lists.proofs.Tests.{and-left}
 use Rattle.stations.specs.Sets.{everyone}
 use Rattle.quorum.specs.Answer.{Answer, refused, answerTo, answer, said}
+use Rattle.quorum.specs.FirstFamily.{firstFamily}
 use Rattle.quorum.specs.Limits.{brokenLimit, upTo, outOfPlace, mostStations, mostUnits, mostQuorums}
 use Rattle.quorum.specs.Need.{Needs, noNeed, sizeOf}
 use Rattle.quorum.specs.Nested.{nested}
 use Rattle.quorum.specs.Refusal.{refusal}
 use Rattle.quorum.specs.Scratch.{scratchBytes}
-use Rattle.quorum.specs.Width.{width, firstFamily, lacksCommon}
+use Rattle.quorum.specs.Width.{width, lacksCommon}
 use Rattle.quorum.proofs.LimitLaws.{limits-kept}
 use Rattle.quorum.proofs.Needing.{need-width}
 

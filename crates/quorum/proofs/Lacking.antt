@@ -14,9 +14,10 @@ use Rattle.stations.specs.Sets.{everyone}
 use Rattle.stations.proofs.Members.{and-again}
 use Rattle.quorum.specs.Arbiter.{Common}
 use Rattle.quorum.specs.Family.{quorum, commonWithin, commonPart, emptyWithin, Numbers}
+use Rattle.quorum.specs.FirstFamily.{firstFamily}
 use Rattle.quorum.specs.Limits.{brokenLimit}
 use Rattle.quorum.specs.Need.{Emptying}
-use Rattle.quorum.specs.Width.{width, firstFamily, lacksCommon}
+use Rattle.quorum.specs.Width.{width, lacksCommon}
 use Rattle.quorum.proofs.CommonMember.{common-or-empty, common-not-empty, emptying-lacks}
 use Rattle.quorum.proofs.Families.{First}
 use Rattle.quorum.proofs.LimitLaws.{limits-kept}

@@ -5,8 +5,9 @@ use Prim.Native.Nat.{ℕ}
 use lib.Dec.{eqb}
 use Rattle.lists.specs.Cut.{cut}
 use Rattle.quorum.specs.Even.{even}
+use Rattle.quorum.specs.FirstFamily.{firstFamily}
 use Rattle.quorum.specs.Refusal.{refusal}
-use Rattle.quorum.specs.Width.{width, firstFamily}
+use Rattle.quorum.specs.Width.{width}
 use Rattle.quorum.specs.declared.Checked.{Checked}
 
 -- "The check answers refusal, width, even and a family"

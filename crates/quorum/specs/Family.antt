@@ -39,8 +39,3 @@ unfoldable pub families : ℕ → ℕ → ℕ → List (List ℕ)
 families a m zero = [] ∷ []
 families a zero (suc w) = []
 families a (suc m) (suc w) = map (λ f. a ∷ f) (families (suc a) m w) ++ families (suc a) m (suc w)
-
--- g comes before f in dictionary order, both of one length
-pub data Before : List ℕ → List ℕ → Type 0 where
-  here : {a b : ℕ} {g f : List ℕ} → a < b → Before (a ∷ g) (b ∷ f)
-  there : {a : ℕ} {g f : List ℕ} → Before g f → Before (a ∷ g) (a ∷ f)

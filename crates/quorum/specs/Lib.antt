@@ -1,6 +1,7 @@
 pub mod Limits
 pub mod Family
 pub mod Width
+pub mod FirstFamily
 pub mod Need
 pub mod Nested
 pub mod Even

@@ -9,6 +9,10 @@ use lib.ListN.{length, drop, replicate}
 abbrev pub scratchBytes : ℕ
 scratchBytes = 4096
 
+-- zeros in the first `bytes` bytes, and what lies beyond; a shorter scratch as it is
+unfoldable pub zeroed : ℕ → List ℕ → List ℕ
+zeroed bytes s = cond (ltb (length s) bytes) s (replicate bytes 0 ++ drop bytes s)
+
 -- "zeros in its first 4,096 bytes and is unchanged beyond; a shorter one is unchanged"
-unfoldable pub cleaned : List ℕ → List ℕ
-cleaned s = cond (ltb (length s) scratchBytes) s (replicate scratchBytes 0 ++ drop scratchBytes s)
+abbrev pub cleaned : List ℕ → List ℕ
+cleaned s = zeroed scratchBytes s

@@ -1,10 +1,10 @@
--- Width, the first family, and the lack of a common member.
+-- Width, and the lack of a common member.
 use mathlib.Core.Bool.{Bool, cond, _&&_}
-use mathlib.Core.List.{List, []}
+use mathlib.Core.List.{List}
 use Prim.Native.Nat.{ℕ, zero, suc, _+_}
 use lib.Dec.{leb}
 use lib.ListN.{length}
-use Rattle.lists.specs.Search.{any, firstOf}
+use Rattle.lists.specs.Search.{any}
 use Rattle.stations.specs.Sets.{everyone}
 use Rattle.quorum.specs.Family.{emptyWithin, families}
 
@@ -20,10 +20,6 @@ leastSize table s w (suc more) = cond (emptied table s w) w (leastSize table s (
 -- "Width: the size of the smallest family with an empty common part, 0 if there is none": sizes 0 to the length of the table
 unfoldable pub width : ℕ → List ℕ → ℕ
 width n table = leastSize table (everyone n) 0 (suc (length table))
-
--- "the family of that size whose ascending list of numbers comes first in dictionary order"
-unfoldable pub firstFamily : ℕ → List ℕ → List ℕ
-firstFamily n table = firstOf (emptyWithin table (everyone n)) [] (families 0 (length table) (width n table))
 
 -- "a table then lacks a common member when 2 ≤ width ≤ k + 1"
 unfoldable pub lacksCommon : ℕ → ℕ → List ℕ → Bool

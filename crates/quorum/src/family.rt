@@ -7,7 +7,7 @@ ghost use Rattle.stations.specs.Sets.{everyone};
 ghost use Rattle.quorum.specs.Limits.{mostStations, mostQuorums};
 ghost use Rattle.quorum.specs.Scratch.{scratchBytes};
 ghost use Rattle.quorum.specs.Need.{Needs, noNeed};
-ghost use Rattle.quorum.specs.Width.{firstFamily};
+ghost use Rattle.quorum.specs.FirstFamily.{firstFamily};
 
 // The lowest-numbered quorum that lowers what is still needed, again and again: a lower number
 // would have lowered it before, so the numbers ascend, and no other family comes first.

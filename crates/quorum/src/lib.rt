@@ -134,13 +134,13 @@ pub fn check(n: usize, k: usize, quorums: &[u16], scratch: &mut [u8]) -> Checked
 {
     let broken = limits::broken_limit(n, k, quorums);
     if broken != NO_REFUSAL {
-        scratch::clean(scratch);
+        scratch::clean(scratch, scratch::SCRATCH_BYTES);
         return refused(broken);
     }
     if scratch.len() < scratch::SCRATCH_BYTES {
         return refused(SHORT_SCRATCH);
     }
     let checked = judge(n, k, quorums, scratch);
-    scratch::clean(scratch);
+    scratch::clean(scratch, scratch::SCRATCH_BYTES);
     checked
 }

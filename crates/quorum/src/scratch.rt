@@ -1,18 +1,18 @@
 // The scratch that a caller lends.
 ghost use mathlib.Core.Path.{_≡_};
-ghost use Rattle.quorum.specs.Scratch.{cleaned};
+ghost use Rattle.quorum.specs.Scratch.{zeroed};
 
 pub(crate) const SCRATCH_BYTES: usize = 4096;
 
-// Zeros in the first 4,096 bytes; a shorter scratch stays as it is.
-pub(crate) fn clean(scratch: &mut [u8])
-    ensures { λ _. ⌜ now (scratch .exit) ≡ cleaned (now (scratch .entry)) ⌝ }
+// Zeros in the first `bytes` bytes; a shorter scratch stays as it is.
+pub(crate) fn clean(scratch: &mut [u8], bytes: usize)
+    ensures { λ _. ⌜ now (scratch .exit) ≡ zeroed bytes (now (scratch .entry)) ⌝ }
 {
-    if scratch.len() < SCRATCH_BYTES {
+    if scratch.len() < bytes {
         return;
     }
     let mut i: usize = 0;
-    while i < SCRATCH_BYTES {
+    while i < bytes {
         scratch[i] = 0;
         i += 1;
     }

@@ -3,7 +3,8 @@
 use mathlib.Core.Path.{sym, _∙_}
 use lib.ListN.{length}
 use borrow.Author.Needs.{needs}
-use Rattle.quorum.proofs.Cleaning.{cleaned-short, cleaned-same}
+use Rattle.quorum.specs.Scratch.{scratchBytes}
+use Rattle.quorum.proofs.Cleaning.{zeroed-short, zeroed-same}
 use Rattle.quorum.proofs.Judging.{limit-broken, scratch-short}
 use Rattle.quorum.proofs.check.Statement.{statement}
 use Rattle.quorum.proofs.check.Tie as tie
@@ -36,7 +37,7 @@ returns-2 c =
     let start = c .before .before .before .before .before .before .args in (
       c .refused2 .ensures
           ∙ scratch-short (start .n) (start .k) (start .quorums .now) (length (start .scratch .now)) (sym (c .before .before .before .broken-limit .ensures) ∙ c .before .before .if1 .left) (c .before .if2 .taken),
-      sym (cleaned-short (start .scratch .now) (c .before .if2 .taken)),
+      sym (zeroed-short scratchBytes (start .scratch .now) (c .before .if2 .taken)),
     )
 
 judge-requires : tie.Need-judge-requires
@@ -52,7 +53,7 @@ returns-3 : tie.Need-returns-3
 returns-3 c =
     let start = c .before .before .before .before .before .before .before .before .before .before .before .before .before .args in
     let judge = c .before .before .before .before .before .before .judge in
-    (judge .ensures .0, c .before .before .clean2 .ensures ∙ cleaned-same (start .scratch .now) (judge .last .1 .1 .1 .0) (judge .kept .1 .1 .1 .0) (c .before .before .before .before .before .before .before .before .if2 .left) (judge .ensures .1))
+    (judge .ensures .0, c .before .before .clean2 .ensures ∙ zeroed-same scratchBytes (start .scratch .now) (judge .last .1 .1 .1 .0) (judge .kept .1 .1 .1 .0) (c .before .before .before .before .before .before .before .before .if2 .left) (judge .ensures .1))
 
 pub check-spec : {M : Type 1} → statement M
 check-spec =

@@ -7,20 +7,19 @@ use native.Mathlib.Omega.{arith}
 use lib.ListN.{length, drop, set, replicate, length-set}
 use borrow.Author.Fill.{fill-more}
 use borrow.Author.Needs.{needs}
-use Rattle.quorum.specs.Scratch.{scratchBytes}
-use Rattle.quorum.proofs.Cleaning.{cleaned-short, cleaned-long}
+use Rattle.quorum.proofs.Cleaning.{zeroed-short, zeroed-long}
 use Rattle.quorum.proofs.scratch.clean.Statement.{statement}
 use Rattle.quorum.proofs.scratch.clean.Tie as tie
 
 abbrev Inv-loop : tie.InvT-loop
-Inv-loop scratch₀ i₀ scratch i =
-    (i ≤ scratchBytes) × (length scratch ≡ length scratch₀) × (scratch ≡ replicate i 0 ++ drop i scratch₀)
+Inv-loop scratch₀ bytes i₀ scratch i =
+    (i ≤ bytes) × (length scratch ≡ length scratch₀) × (scratch ≡ replicate i 0 ++ drop i scratch₀)
 
 abbrev μ-loop : tie.MeasureT-loop
-μ-loop scratch₀ i₀ scratch i = scratchBytes - i
+μ-loop scratch₀ bytes i₀ scratch i = bytes - i
 
 returns : tie.Need-returns Inv-loop μ-loop
-returns c = sym (cleaned-short (c .before .args .scratch .now) (c .if1 .taken))
+returns c = sym (zeroed-short (c .before .args .bytes) (c .before .args .scratch .now) (c .if1 .taken))
 
 loop-holds : tie.Need-loop-holds Inv-loop μ-loop
 loop-holds c = search needs
@@ -47,8 +46,8 @@ returns-2 : tie.Need-returns-2 Inv-loop μ-loop
 returns-2 c =
     let at = c .before .loop in
     let start = c .before .before .before .args .scratch .now in
-    let end : at .i ≡ scratchBytes = omega arith in
-    at .inv .2 ∙ ap (λ (i : ℕ). replicate i 0 ++ drop i start) end ∙ sym (cleaned-long start (omega arith))
+    let end : at .i ≡ c .before .before .before .args .bytes = omega arith in
+    at .inv .2 ∙ ap (λ (i : ℕ). replicate i 0 ++ drop i start) end ∙ sym (zeroed-long (c .before .before .before .args .bytes) start (omega arith))
 
 pub clean-spec : {M : Type 1} → statement M
 clean-spec =
