@@ -1,36 +1,46 @@
 // The marked tables P1 to P9 of document 01.
-use crate::report;
 use crate::table;
 
-fn one_to_three() {
-    report::text(b"P1");
-    table::check(1, 1, &[1]);
-    report::text(b"P2");
-    table::check(3, 1, &[3, 5, 6]);
-    report::text(b"P3");
-    table::check(3, 2, &[3, 5, 6]);
+fn p1() {
+    table::check(b"P1", 1, 1, &[1]);
 }
 
-fn four_to_six() {
-    report::text(b"P4");
-    table::check(2, 5, &[1, 2]);
-    report::text(b"P5");
-    table::check(4, 2, &[7, 11, 13, 14]);
-    report::text(b"P6");
-    table::check(4, 3, &[7, 11, 13, 14]);
+// P2, and with a stock of 2 P3.
+fn p2_p3() {
+    let quorums = [3, 5, 6];
+    table::check(b"P2", 3, 1, &quorums);
+    table::check(b"P3", 3, 2, &quorums);
 }
 
-fn seven_to_nine() {
-    report::text(b"P7");
-    table::check(4, 2, &[3, 12, 5, 10]);
-    report::text(b"P8");
-    table::check(2, 1, &[1, 3]);
-    report::text(b"P9");
-    table::check(2, 1, &[1, 2, 3]);
+fn p4() {
+    table::check(b"P4", 2, 5, &[1, 2]);
+}
+
+// P5, and with a stock of 3 P6.
+fn p5_p6() {
+    let quorums = [7, 11, 13, 14];
+    table::check(b"P5", 4, 2, &quorums);
+    table::check(b"P6", 4, 3, &quorums);
+}
+
+fn p7() {
+    table::check(b"P7", 4, 2, &[3, 12, 5, 10]);
+}
+
+fn p8() {
+    table::check(b"P8", 2, 1, &[1, 3]);
+}
+
+fn p9() {
+    table::check(b"P9", 2, 1, &[1, 2, 3]);
 }
 
 pub(crate) fn tables() {
-    one_to_three();
-    four_to_six();
-    seven_to_nine();
+    p1();
+    p2_p3();
+    p4();
+    p5_p6();
+    p7();
+    p8();
+    p9();
 }

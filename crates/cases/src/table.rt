@@ -49,22 +49,23 @@ fn print_answer(checked: quorum::Checked) {
     print_family(checked);
 }
 
-// Checks the table on the scratch and prints the answer, then how many bytes of the scratch are
-// zeros and how many are as they were.
-fn check_with(scratch: &mut [u8], n: usize, k: usize, quorums: &[u16]) {
+// Checks the table on the scratch and prints the example's name and the answer, then how many bytes
+// of the scratch are zeros and how many are as they were.
+fn check_with(scratch: &mut [u8], name: &[u8], n: usize, k: usize, quorums: &[u16]) {
     let checked = quorum::check(n, k, quorums, scratch);
+    report::text(name);
     print_answer(checked);
     print_scratch(scratch);
 }
 
 // On 5,000 bytes of scratch, more than the check asks for.
-pub(crate) fn check(n: usize, k: usize, quorums: &[u16]) {
+pub(crate) fn check(name: &[u8], n: usize, k: usize, quorums: &[u16]) {
     let mut scratch = [BEFORE; 5000];
-    check_with(&mut scratch, n, k, quorums);
+    check_with(&mut scratch, name, n, k, quorums);
 }
 
 // On 4,095 bytes of scratch, one byte too few.
-pub(crate) fn check_short(n: usize, k: usize, quorums: &[u16]) {
+pub(crate) fn check_short(name: &[u8], n: usize, k: usize, quorums: &[u16]) {
     let mut scratch = [BEFORE; 4095];
-    check_with(&mut scratch, n, k, quorums);
+    check_with(&mut scratch, name, n, k, quorums);
 }
