@@ -46,7 +46,7 @@ module _ (n k : ℕ) (table : List ℕ) (room : ℕ) where
   passes-accepted p =
       rw (eq-eqb (brokenLimit n k table) 0 (p .limits), le-ltb room scratchBytes (p .scratch), p .common, p .plain)
 
-  -- demand 2: "The check accepts exactly the k-arbiters of RR-2523 within the limits"
+  -- a table is accepted exactly when it keeps the limits, scratch is enough, and it is a k-arbiter of RR-2523
   pub accepts-arbiters : (refusal n k table room ≡ 0) ↔ ((brokenLimit n k table ≡ 0) × (scratchBytes ≤ room) × Arbiter n k table)
   accepts-arbiters = (to, from)
     where

@@ -60,7 +60,7 @@ module _ (n k : ℕ) (table : List ℕ) (kept : brokenLimit n k table ≡ 0) whe
           (sym (everyone-and n (quorum table p) (limits .members p lt .1)) ∙ and-comm (quorum table p) (everyone n) ∙ empties)
       go f (Numbers.and {p} {f = q ∷ g} lt rest) empties size = omega arith
 
-  -- "width is never 1"
+  -- the width is never 1
   pub width-not-one : width n table ≡ 1 → ⊥
   width-not-one e = go (width-is n table (limits .stations .0))
     where
@@ -79,7 +79,7 @@ module _ (n k : ℕ) (table : List ℕ) (kept : brokenLimit n k table ≡ 0) whe
           let two : width n table ≡ 1 → ⊥ = width-not-one in
           and-both (le-leb 2 (width n table) (omega arith)) (le-leb (width n table) (k + 1) (omega (arith, bound e)))
 
-  -- "any list of at most k + 1 quorum numbers of an accepted table has a common station below n"
+  -- where no common member is lacking, at most k + 1 quorums, repeats allowed, have a common station below n
   pub common-member : lacksCommon n k table ≡ false → (f : List ℕ) → Numbers (length table) f → length f ≤ k + 1 → Common n table f
   common-member has f numbers short =
       ⊎-elim (λ c. c)

@@ -33,21 +33,28 @@ use Rattle.quorum.proofs.Thinned.{with-quorum}
 use Rattle.quorum.proofs.Widths.{everyone-some, first-at-width}
 
 module _ (n : ℕ) (table : List ℕ) (few : n ≤ mostStations) (bytes : List ℕ) (needs : Needs n table bytes) where
+  -- what the byte of a set says, and what a quorum leaves of the set
+  abbrev byte : ℕ → ℕ
+  byte s = getD bytes s 0
+
+  abbrev left : ℕ → ℕ → ℕ
+  left s p = bitAnd s (quorum table p)
+
   -- ---- what the bytes say
 
   -- quorums that empty a set are as many as its byte says, or more
-  lower : (s : ℕ) → s < 2 ^ n → (e : Emptying table s) → getD bytes s 0 ≤ length (e .list)
+  lower : (s : ℕ) → s < 2 ^ n → (e : Emptying table s) → byte s ≤ length (e .list)
   lower s h e = go (needs s h)
     where
-      go : Need table s (getD bytes s 0) → getD bytes s 0 ≤ length (e .list)
+      go : Need table s (byte s) → byte s ≤ length (e .list)
       go (Need.least e′ size low) = low e
       go (Need.never v none) = absurd (none e)
 
   -- a byte other than 255 is reached, and is at most n
-  pub reached : (s : ℕ) → s < 2 ^ n → (getD bytes s 0 ≡ noNeed → ⊥) → (e : Emptying table s) × (length (e .list) ≡ getD bytes s 0) × (getD bytes s 0 ≤ n)
+  pub reached : (s : ℕ) → s < 2 ^ n → (byte s ≡ noNeed → ⊥) → (e : Emptying table s) × (length (e .list) ≡ byte s) × (byte s ≤ n)
   reached s h some = go (needs s h)
     where
-      go : Need table s (getD bytes s 0) → (e : Emptying table s) × (length (e .list) ≡ getD bytes s 0) × (getD bytes s 0 ≤ n)
+      go : Need table s (byte s) → (e : Emptying table s) × (length (e .list) ≡ byte s) × (byte s ≤ n)
       go (Need.least e size low) = (e, size, need-few n table few h e low)
       go (Need.never v none) = absurd (some v)
 
@@ -55,61 +62,61 @@ module _ (n : ℕ) (table : List ℕ) (few : n ≤ mostStations) (bytes : List �
   left-fits s q h = lt-of-le-of-lt (and-le-l s q) h
 
   -- one quorum lowers a byte by one at most
-  by-one : (s p : ℕ) → s < 2 ^ n → p < length table → (getD bytes (bitAnd s (quorum table p)) 0 ≡ noNeed → ⊥)
-      → getD bytes s 0 ≤ suc (getD bytes (bitAnd s (quorum table p)) 0)
+  by-one : (s p : ℕ) → s < 2 ^ n → p < length table → (byte (left s p) ≡ noNeed → ⊥)
+      → byte s ≤ suc (byte (left s p))
   unfolding with-quorum
   by-one s p h lt some =
-      let (e, size, small) = reached (bitAnd s (quorum table p)) (left-fits s (quorum table p) h) some in
+      let (e, size, small) = reached (left s p) (left-fits s (quorum table p) h) some in
       omega (arith, lower s h (with-quorum table s p lt e))
 
   -- a quorum that lowers a byte lowers it by one
-  pub one-less : (s p : ℕ) → s < 2 ^ n → p < length table → (getD bytes s 0 ≡ noNeed → ⊥)
-      → getD bytes (bitAnd s (quorum table p)) 0 < getD bytes s 0 → getD bytes s 0 ≡ suc (getD bytes (bitAnd s (quorum table p)) 0)
+  pub one-less : (s p : ℕ) → s < 2 ^ n → p < length table → (byte s ≡ noNeed → ⊥)
+      → byte (left s p) < byte s → byte s ≡ suc (byte (left s p))
   one-less s p h lt some lowers =
-      let few-left : getD bytes s 0 ≤ n = reached s h some .2 in
+      let few-left : byte s ≤ n = reached s h some .2 in
       omega (arith, by-one s p h lt (λ e. omega arith))
 
   -- no quorum below p lowers the byte of s
   abbrev Useless : ℕ → ℕ → Type 0
-  Useless s p = (b : ℕ) → b < p → getD bytes s 0 ≤ getD bytes (bitAnd s (quorum table b)) 0
+  Useless s p = (b : ℕ) → b < p → byte s ≤ byte (left s b)
 
   -- a quorum that lowers the byte of s: what it leaves needs one less, and the quorums that were of no use stay so, itself included
-  module _ (s p : ℕ) (h : s < 2 ^ n) (lt : p < length table) (some : getD bytes s 0 ≡ noNeed → ⊥)
-      (lowers : getD bytes (bitAnd s (quorum table p)) 0 < getD bytes s 0) (useless : Useless s p) where
-    still-useless : (b : ℕ) → b < p → getD bytes (bitAnd s (quorum table p)) 0 ≤ getD bytes (bitAnd (bitAnd s (quorum table p)) (quorum table b)) 0
+  module _ (s p : ℕ) (h : s < 2 ^ n) (lt : p < length table) (some : byte s ≡ noNeed → ⊥)
+      (lowers : byte (left s p) < byte s) (useless : Useless s p) where
+    still-useless : (b : ℕ) → b < p → byte (left s p) ≤ byte (left (left s p) b)
     still-useless b less =
         rw (and-swap s (quorum table p) (quorum table b))
-        (by-cases (decLt (getD bytes (bitAnd (bitAnd s (quorum table b)) (quorum table p)) 0) (getD bytes (bitAnd s (quorum table p)) 0))
-        (λ (smaller : getD bytes (bitAnd (bitAnd s (quorum table b)) (quorum table p)) 0 < getD bytes (bitAnd s (quorum table p)) 0).
-        let known-left : getD bytes (bitAnd (bitAnd s (quorum table b)) (quorum table p)) 0 ≡ noNeed → ⊥ = λ e. omega (arith, reached s h some .2) in
-        omega (arith, by-one (bitAnd s (quorum table b)) p (left-fits s (quorum table b) h) lt known-left, useless b less, one-less s p h lt some lowers))
-        (λ (not : ¬ (getD bytes (bitAnd (bitAnd s (quorum table b)) (quorum table p)) 0 < getD bytes (bitAnd s (quorum table p)) 0)). omega arith))
+        (by-cases (decLt (byte (left (left s b) p)) (byte (left s p)))
+        (λ (smaller : byte (left (left s b) p) < byte (left s p)).
+        let known-left : byte (left (left s b) p) ≡ noNeed → ⊥ = λ e. omega (arith, reached s h some .2) in
+        omega (arith, by-one (left s b) p (left-fits s (quorum table b) h) lt known-left, useless b less, one-less s p h lt some lowers))
+        (λ (not : ¬ (byte (left (left s b) p) < byte (left s p))). omega arith))
 
-    useless-left : Useless (bitAnd s (quorum table p)) (suc p)
-    useless-left = below-suc p still-useless (rw (and-again s (quorum table p)) (le-refl (getD bytes (bitAnd s (quorum table p)) 0)))
+    useless-left : Useless (left s p) (suc p)
+    useless-left = below-suc p still-useless (rw (and-again s (quorum table p)) (le-refl (byte (left s p))))
 
   -- where no quorum of the table lowers the byte, it is 0
-  useless-zero : (s : ℕ) → s < 2 ^ n → (getD bytes s 0 ≡ noNeed → ⊥) → Useless s (length table) → getD bytes s 0 ≡ 0
+  useless-zero : (s : ℕ) → s < 2 ^ n → (byte s ≡ noNeed → ⊥) → Useless s (length table) → byte s ≡ 0
   unfolding commonWithin
   useless-zero s h some useless = let (e, size, small) = reached s h some in go (e .list) (e .numbers) (e .empties) size
     where
-      go : (f : List ℕ) → Numbers (length table) f → commonWithin table s f ≡ 0 → length f ≡ getD bytes s 0 → getD bytes s 0 ≡ 0
+      go : (f : List ℕ) → Numbers (length table) f → commonWithin table s f ≡ 0 → length f ≡ byte s → byte s ≡ 0
       go f Numbers.none e size = omega arith
       go g (Numbers.and {p} {f} lt rest) e size =
-          absurd (omega (arith, useless p lt, lower (bitAnd s (quorum table p)) (left-fits s (quorum table p) h) (record { list = f; numbers = rest; empties = e })))
+          absurd (omega (arith, useless p lt, lower (left s p) (left-fits s (quorum table p) h) (record { list = f; numbers = rest; empties = e })))
 
   -- a set whose byte is 0 is empty
-  zero-empty : (s : ℕ) → s < 2 ^ n → getD bytes s 0 ≡ 0 → s ≡ 0
+  zero-empty : (s : ℕ) → s < 2 ^ n → byte s ≡ 0 → s ≡ 0
   unfolding commonWithin
   zero-empty s h z = let (e, size, small) = reached s h (λ e. omega arith) in go (e .list) (e .empties) size
     where
-      go : (f : List ℕ) → commonWithin table s f ≡ 0 → length f ≡ getD bytes s 0 → s ≡ 0
+      go : (f : List ℕ) → commonWithin table s f ≡ 0 → length f ≡ byte s → s ≡ 0
       go [] e size = e
       go (p ∷ f) e size = absurd (omega arith)
 
-  lowering-zero : (s p : ℕ) (rest : List ℕ) → getD bytes s 0 ≡ 0 → lowering bytes s p rest ≡ []
+  lowering-zero : (s p : ℕ) (rest : List ℕ) → byte s ≡ 0 → lowering bytes s p rest ≡ []
   lowering-zero s p [] z = refl
-  lowering-zero s p (q ∷ rest) z = rw (z, le-ltb (getD bytes (bitAnd s q) 0) 0 (omega arith)) (lowering-zero s (suc p) rest z)
+  lowering-zero s p (q ∷ rest) z = rw (z, le-ltb (byte (bitAnd s q)) 0 (omega arith)) (lowering-zero s (suc p) rest z)
 
   -- ---- the first family
 
@@ -118,7 +125,7 @@ module _ (n : ℕ) (table : List ℕ) (few : n ≤ mostStations) (bytes : List �
     some : any (emptyWithin table s) (families p m w) ≡ true
     first : firstOf (emptyWithin table s) [] (families p m w) ≡ lowering bytes s p (drop p table)
 
-  module _ (m w s p : ℕ) (ends : p + suc m ≡ length table) (h : s < 2 ^ n) (size : getD bytes s 0 ≡ suc w) (small : suc w ≤ n) where
+  module _ (m w s p : ℕ) (ends : p + suc m ≡ length table) (h : s < 2 ^ n) (size : byte s ≡ suc w) (small : suc w ≤ n) where
     with-p : List (List ℕ)
     with-p = map (λ f. p ∷ f) (families (suc p) m w)
 
@@ -128,7 +135,7 @@ module _ (n : ℕ) (table : List ℕ) (few : n ≤ mostStations) (bytes : List �
     at-p : drop p table ≡ quorum table p ∷ drop (suc p) table
     at-p = drop-cons table p 0 (omega arith)
 
-    takes : getD bytes (bitAnd s (quorum table p)) 0 < getD bytes s 0 → Lowered (bitAnd s (quorum table p)) (suc p) m w → Lowered s p (suc m) (suc w)
+    takes : byte (left s p) < byte s → Lowered (left s p) (suc p) m w → Lowered s p (suc m) (suc w)
     unfolding families commonWithin with-p without-p
     takes lowers l =
         let holds : any (emptyWithin table s) with-p ≡ true = any-map (emptyWithin table s) (λ f. p ∷ f) (families (suc p) m w) ∙ l .some in
@@ -138,22 +145,22 @@ module _ (n : ℕ) (table : List ℕ) (few : n ≤ mostStations) (bytes : List �
               first-append-some (emptyWithin table s) [] with-p without-p holds
               ∙ first-map (emptyWithin table s) (λ f. p ∷ f) [] [] (families (suc p) m w) (l .some)
               ∙ ap (λ (f : List ℕ). p ∷ f) (l .first)
-              ∙ rw (at-p, lt-ltb (getD bytes (bitAnd s (quorum table p)) 0) (getD bytes s 0) lowers);
+              ∙ rw (at-p, lt-ltb (byte (left s p)) (byte s) lowers);
         }
 
     -- with p it would take more
-    none-with-p : getD bytes s 0 ≤ getD bytes (bitAnd s (quorum table p)) 0 → any (emptyWithin table (bitAnd s (quorum table p))) (families (suc p) m w) ≡ false
+    none-with-p : byte s ≤ byte (left s p) → any (emptyWithin table (left s p)) (families (suc p) m w) ≡ false
     none-with-p no-use =
-        not-true-false (any (emptyWithin table (bitAnd s (quorum table p))) (families (suc p) m w)) (λ t.
-        let f = first-family (length table) (emptyWithin table (bitAnd s (quorum table p))) (suc p) m w (omega arith) t in
-        let bound = lower (bitAnd s (quorum table p)) (left-fits s (quorum table p) h) (record {
-          list = firstOf (emptyWithin table (bitAnd s (quorum table p))) [] (families (suc p) m w);
+        not-true-false (any (emptyWithin table (left s p)) (families (suc p) m w)) (λ t.
+        let f = first-family (length table) (emptyWithin table (left s p)) (suc p) m w (omega arith) t in
+        let bound = lower (left s p) (left-fits s (quorum table p) h) (record {
+          list = firstOf (emptyWithin table (left s p)) [] (families (suc p) m w);
           numbers = family-numbers (f .family);
           empties = eqb-true _ 0 (f .holds);
         }) in
         omega (arith, f .size))
 
-    skips : getD bytes s 0 ≤ getD bytes (bitAnd s (quorum table p)) 0 → Lowered s (suc p) m (suc w) → Lowered s p (suc m) (suc w)
+    skips : byte s ≤ byte (left s p) → Lowered s (suc p) m (suc w) → Lowered s p (suc m) (suc w)
     unfolding families commonWithin with-p without-p
     skips no-use l =
         let nothing : any (emptyWithin table s) with-p ≡ false = any-map (emptyWithin table s) (λ f. p ∷ f) (families (suc p) m w) ∙ none-with-p no-use in
@@ -162,48 +169,48 @@ module _ (n : ℕ) (table : List ℕ) (few : n ≤ mostStations) (bytes : List �
           first =
               first-append-none (emptyWithin table s) [] with-p without-p nothing
               ∙ l .first
-              ∙ rw (at-p, le-ltb (getD bytes (bitAnd s (quorum table p)) 0) (getD bytes s 0) no-use);
+              ∙ rw (at-p, le-ltb (byte (left s p)) (byte s) no-use);
         }
 
   -- a set whose byte is 0 has no station to leave
-  nothing-left : (m s p : ℕ) → s < 2 ^ n → getD bytes s 0 ≡ 0 → Lowered s p m 0
+  nothing-left : (m s p : ℕ) → s < 2 ^ n → byte s ≡ 0 → Lowered s p m 0
   unfolding families commonWithin
   nothing-left m s p h z =
       let empty : eqb s 0 ≡ true = eq-eqb s 0 (zero-empty s h z) in
       record { some = or-left (eqb s 0) false empty; first = rw (empty, lowering-zero s p (drop p table) z) }
 
-  lowered : (m w s p : ℕ) → p + m ≡ length table → s < 2 ^ n → getD bytes s 0 ≡ w → w ≤ n → Useless s p → Lowered s p m w
+  lowered : (m w s p : ℕ) → p + m ≡ length table → s < 2 ^ n → byte s ≡ w → w ≤ n → Useless s p → Lowered s p m w
   lowered m zero s p ends h size small useless = nothing-left m s p h size
   lowered zero (suc w) s p ends h size small useless =
       absurd (omega (arith, useless-zero s h (λ e. omega arith) (λ b less. useless b (omega arith))))
   lowered (suc m) (suc w) s p ends h size small useless =
       ⊎-elim
-      (λ (t : ltb (getD bytes (bitAnd s (quorum table p)) 0) (getD bytes s 0) ≡ true).
-      let lowers = ltb-true (getD bytes (bitAnd s (quorum table p)) 0) (getD bytes s 0) t in
+      (λ (t : ltb (byte (left s p)) (byte s) ≡ true).
+      let lowers = ltb-true (byte (left s p)) (byte s) t in
       takes m w s p ends h size small lowers
-      (lowered m w (bitAnd s (quorum table p)) (suc p) (omega arith) (left-fits s (quorum table p) h)
+      (lowered m w (left s p) (suc p) (omega arith) (left-fits s (quorum table p) h)
       (omega (arith, one-less s p h (omega arith) (λ e. omega arith) lowers)) (omega arith)
       (useless-left s p h (omega arith) (λ e. omega arith) lowers useless)))
-      (λ (t : ltb (getD bytes (bitAnd s (quorum table p)) 0) (getD bytes s 0) ≡ false).
-      let no-use = ltb-false (getD bytes (bitAnd s (quorum table p)) 0) (getD bytes s 0) t in
+      (λ (t : ltb (byte (left s p)) (byte s) ≡ false).
+      let no-use = ltb-false (byte (left s p)) (byte s) t in
       skips m w s p ends h size small no-use
       (lowered m (suc w) s (suc p) (omega arith) h size small (below-suc p useless no-use)))
-      (known (ltb (getD bytes (bitAnd s (quorum table p)) 0) (getD bytes s 0)))
+      (known (ltb (byte (left s p)) (byte s)))
 
   -- "the family of that size whose ascending list of numbers comes first in dictionary order"
-  pub lowering-first : 0 < n → (getD bytes (everyone n) 0 ≡ noNeed → ⊥) → lowering bytes (everyone n) 0 table ≡ firstFamily n table
+  pub lowering-first : 0 < n → (byte (everyone n) ≡ noNeed → ⊥) → lowering bytes (everyone n) 0 table ≡ firstFamily n table
   unfolding firstFamily
   lowering-first some finite =
-      let v : ℕ = getD bytes (everyone n) 0 in
+      let v : ℕ = byte (everyone n) in
       let same : width n table ≡ v = need-width n table few some v (needs (everyone n) (ones-lt n)) ∙ rw (ne-eqb v noNeed finite) in
       rw same
       (sym (lowered (length table) v (everyone n) 0 (omega arith) (ones-lt n) refl (reached (everyone n) (ones-lt n) finite .2)
       (λ b less. absurd (omega arith)) .first))
 
   -- as many quorums are taken as all stations need
-  pub lowering-length : 0 < n → (getD bytes (everyone n) 0 ≡ noNeed → ⊥) → length (lowering bytes (everyone n) 0 table) ≡ getD bytes (everyone n) 0
+  pub lowering-length : 0 < n → (byte (everyone n) ≡ noNeed → ⊥) → length (lowering bytes (everyone n) 0 table) ≡ byte (everyone n)
   lowering-length some finite =
-      let v : ℕ = getD bytes (everyone n) 0 in
+      let v : ℕ = byte (everyone n) in
       let same : width n table ≡ v = need-width n table few some v (needs (everyone n) (ones-lt n)) ∙ rw (ne-eqb v noNeed finite) in
       let more : v ≡ 0 → ⊥ = λ z. everyone-some n some (zero-empty (everyone n) (ones-lt n) z) in
       ap length (lowering-first some finite) ∙ first-at-width n table some (omega arith) .size ∙ same
