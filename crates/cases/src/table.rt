@@ -11,7 +11,7 @@ fn print_family(checked: quorum::Checked) {
     }
     report::text(b" family=");
     let mut i: usize = 0;
-    while i < 12 {
+    while i < quorum::MOST_STATIONS {
         if i < size {
             let number = checked.family[i] as usize;
             report::number(b"", number);

@@ -1,14 +1,12 @@
 -- The check accepts exactly the k-arbiters of RR-2523 (Definition 4.1) within the limits, where scratch is enough.
 -- Assumes nothing.
-use mathlib.Core.Bool.{false}
+use mathlib.Core.Bool.{true, false}
 use mathlib.Core.List.{List}
 use mathlib.Core.Logic.{_↔_, by-cases}
-use mathlib.Core.Path.{_≡_}
+use mathlib.Core.Path.{_≡_, sym, _∙_}
 use Prim.Native.Nat.{ℕ, _≤_}
-use native.Mathlib.Decide.{ℕ-discrete}
+use native.Mathlib.Decide.{ℕ-discrete, decLe}
 use native.Mathlib.Omega.{arith}
-use lib.Dec.{ltb}
-use borrow.Author.Tests.{ltb-false, le-ltb, eq-eqb, ne-eqb}
 use Rattle.lists.proofs.Tests.{not-true-false}
 use Rattle.quorum.specs.Arbiter.{Arbiter}
 use Rattle.quorum.specs.Limits.{brokenLimit}
@@ -18,8 +16,8 @@ use Rattle.quorum.specs.Scratch.{scratchBytes}
 use Rattle.quorum.specs.Width.{lacksCommon}
 use Rattle.quorum.proofs.CommonMember.{common-member}
 use Rattle.quorum.proofs.Lacking.{lacks-iff}
-use Rattle.quorum.proofs.LimitLaws.{otherwise}
 use Rattle.quorum.proofs.Minimality.{minimal, minimal-nested}
+use Rattle.quorum.proofs.Refusals.{refusal-limit, refusal-five, refusal-six, refusal-later}
 
 -- what an accepted table keeps: each test of the check, passed
 pub record Passes (n k : ℕ) (table : List ℕ) (room : ℕ) : Type 0 where
@@ -29,22 +27,31 @@ pub record Passes (n k : ℕ) (table : List ℕ) (room : ℕ) : Type 0 where
   pub plain : nested table ≡ false
 
 module _ (n k : ℕ) (table : List ℕ) (room : ℕ) where
+  -- the tests in turn: a test that fails has its own refusal, which is not 0
   pub accepted-passes : refusal n k table room ≡ 0 → Passes n k table room
-  unfolding refusal
-  accepted-passes e =
-      by-cases (ℕ-discrete (brokenLimit n k table) 0)
-      (λ (kept : brokenLimit n k table ≡ 0).
-      let later = rw (eq-eqb (brokenLimit n k table) 0 kept) at e in
-      let (five, rest) = otherwise (ltb room scratchBytes) 5 _ (λ z. omega arith) later in
-      let (six, rest′) = otherwise (lacksCommon n k table) 6 _ (λ z. omega arith) rest in
-      let (seven, end) = otherwise (nested table) 7 0 (λ z. omega arith) rest′ in
-      record { limits = kept; scratch = ltb-false room scratchBytes five; common = six; plain = seven })
-      (λ (broken : brokenLimit n k table ≡ 0 → ⊥). absurd (broken (rw (ne-eqb (brokenLimit n k table) 0 broken) at e)))
+  accepted-passes e = record { limits = kept; scratch = enough; common = common; plain = plain }
+    where
+      kept : brokenLimit n k table ≡ 0
+      kept =
+          by-cases (ℕ-discrete (brokenLimit n k table) 0) (λ z. z)
+          (λ (broken : brokenLimit n k table ≡ 0 → ⊥). sym (refusal-limit n k table room broken) ∙ e)
+
+      enough : scratchBytes ≤ room
+      enough =
+          by-cases (decLe scratchBytes room) (λ h. h)
+          (λ (short : ¬ (scratchBytes ≤ room)). absurd (omega (arith, refusal-five n k table room kept (omega arith))))
+
+      common : lacksCommon n k table ≡ false
+      common = not-true-false (lacksCommon n k table) (λ t. omega (arith, refusal-six n k table room kept enough t))
+
+      plain : nested table ≡ false
+      plain =
+          not-true-false (nested table) (λ (t : nested table ≡ true).
+          let seven : refusal n k table room ≡ 7 = refusal-later n k table room kept enough common ∙ rw t in
+          omega arith)
 
   pub passes-accepted : Passes n k table room → refusal n k table room ≡ 0
-  unfolding refusal
-  passes-accepted p =
-      rw (eq-eqb (brokenLimit n k table) 0 (p .limits), le-ltb room scratchBytes (p .scratch), p .common, p .plain)
+  passes-accepted p = refusal-later n k table room (p .limits) (p .scratch) (p .common) ∙ rw (p .plain)
 
   -- a table is accepted exactly when it keeps the limits, scratch is enough, and it is a k-arbiter of RR-2523
   pub accepts-arbiters : (refusal n k table room ≡ 0) ↔ ((brokenLimit n k table ≡ 0) × (scratchBytes ≤ room) × Arbiter n k table)

@@ -8,7 +8,7 @@ use native.Mathlib.Omega.{arith}
 use lib.Dec.{leb}
 use lib.ListN.{length, getD}
 use lib.Pow.{ones-lt}
-use borrow.Author.Tests.{eq-eqb, ne-eqb, lt-ltb, le-ltb, leb-true}
+use borrow.Author.Tests.{eq-eqb, ne-eqb, leb-true}
 use Rattle.lists.specs.Cut.{cut}
 use Rattle.lists.specs.Search.{any}
 use Rattle.lists.proofs.Tests.{and-left}
@@ -23,6 +23,7 @@ use Rattle.quorum.specs.Scratch.{scratchBytes}
 use Rattle.quorum.specs.Width.{width, lacksCommon}
 use Rattle.quorum.proofs.LimitLaws.{limits-kept}
 use Rattle.quorum.proofs.Needing.{need-width}
+use Rattle.quorum.proofs.Refusals.{refusal-limit, refusal-five, refusal-six, refusal-later}
 
 -- ---- the refusals 1 to 5
 
@@ -45,15 +46,14 @@ without-width n table r some small = rw (ne-eqb r 0 some, ne-eqb r 6 (λ e. omeg
 
 module _ (n k : ℕ) (table : List ℕ) (room : ℕ) where
   pub limit-broken : (r : ℕ) → r ≡ brokenLimit n k table → (r ≡ 0 → ⊥) → refused r ≡ answer n k table room
-  unfolding answer refusal
+  unfolding answer
   limit-broken r is some =
-      let broken : brokenLimit n k table ≡ 0 → ⊥ = λ e. some (is ∙ e) in
-      rw (ne-eqb (brokenLimit n k table) 0 broken, ← is) (without-width n table r some (omega (arith, limit-le-four n k table)))
+      rw (refusal-limit n k table room (λ e. some (is ∙ e)), ← is) (without-width n table r some (omega (arith, limit-le-four n k table)))
 
   module _ (kept : brokenLimit n k table ≡ 0) where
     pub scratch-short : room < scratchBytes → refused 5 ≡ answer n k table room
-    unfolding answer refusal answerTo
-    scratch-short short = rw (eq-eqb (brokenLimit n k table) 0 kept, lt-ltb room scratchBytes short)
+    unfolding answer answerTo
+    scratch-short short = rw (refusal-five n k table room kept short)
 
     -- ---- on enough scratch, with the byte of every set
 
@@ -71,14 +71,14 @@ module _ (n k : ℕ) (table : List ℕ) (room : ℕ) where
 
       pub six : (leb 2 w && leb w (k + 1)) ≡ true → (family : List ℕ) → cut 0 (getD bytes (everyone n) 0) family ≡ firstFamily n table
           → said (record { refusal = 6; width = w; even = 0; size = w; family = family }) ≡ answer n k table room
-      unfolding said answer answerTo refusal lacksCommon
+      unfolding said answer answerTo lacksCommon
       six lacks family first =
           let byte : w ≡ getD bytes (everyone n) 0 = size ∙ rw (ne-eqb (getD bytes (everyone n) 0) noNeed (byte-finite lacks)) in
           let six : (leb 2 (width n table) && leb (width n table) (k + 1)) ≡ true = rw width-found at lacks in
-          rw (eq-eqb (brokenLimit n k table) 0 kept, le-ltb room scratchBytes enough, six, ← first, ← byte, ← width-found)
+          rw (refusal-six n k table room kept enough six, ← first, ← byte, ← width-found)
 
       pub seven-or-none : (leb 2 w && leb w (k + 1)) ≡ false → (x : Answer) → x ≡ answerTo n table (cond (nested table) 7 0) → x ≡ answer n k table room
-      unfolding answer refusal lacksCommon
+      unfolding answer lacksCommon
       seven-or-none has x is =
           let common : (leb 2 (width n table) && leb (width n table) (k + 1)) ≡ false = rw width-found at has in
-          is ∙ rw (eq-eqb (brokenLimit n k table) 0 kept, le-ltb room scratchBytes enough, common)
+          is ∙ rw (refusal-later n k table room kept enough common)

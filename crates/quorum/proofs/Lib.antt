@@ -7,6 +7,7 @@ pub mod LimitLaws
 pub mod CommonMember
 pub mod Lacking
 pub mod Minimality
+pub mod Refusals
 pub mod Accepts
 pub mod Needing
 pub mod Lowering

@@ -3,17 +3,19 @@
 use mathlib.Core.Bool.{Bool, true, false, cond, not}
 use mathlib.Core.List.{List, [], _∷_}
 use mathlib.Core.Logic.{by-cases}
-use mathlib.Core.Path.{_≡_, refl}
-use Prim.Native.Nat.{ℕ, zero, suc, _≤_, _<_, _^_}
+use mathlib.Core.Path.{_≡_, refl, sym, ap, _∙_}
+use Prim.Native.Nat.{_*_, _/_, _+_, ℕ, zero, suc, _≤_, _<_, _^_}
 use native.Mathlib.Decide.{decLe}
+use native.Mathlib.Nat.{div-add-mod', mod-lt, zero-mul}
 use native.Mathlib.Omega.{arith}
 use lib.Dec.{leb, eqb}
 use lib.ListN.{length}
+use lib.Pow.{pow-pos}
 use borrow.Author.Tests.{leb-true, leb-false, eqb-false, not-false}
 use Rattle.lists.specs.Search.{any}
 use Rattle.lists.proofs.Tests.{clash, and-left, and-right, or-none}
 use Rattle.stations.specs.Member.{member}
-use Rattle.stations.proofs.Members.{member-below, below-members}
+use Rattle.stations.proofs.Members.{member-below, member-shift, some-member}
 use Rattle.quorum.specs.Family.{quorum}
 use Rattle.quorum.specs.Limits.{brokenLimit, upTo, outOfPlace, mostStations, mostUnits, mostQuorums}
 
@@ -29,8 +31,11 @@ pub names-from : (n q i : ℕ) → n ≤ i → member q i ≡ true → 2 ^ n ≤
 names-from n q i h m =
     by-cases (decLe (2 ^ n) q) (λ le. le) (λ (small : ¬ (2 ^ n ≤ q)). absurd (clash m (member-below n q i (omega arith) h)))
 
-pub names-below : (n q : ℕ) → 2 ^ n ≤ q → ((i : ℕ) → n ≤ i → member q i ≡ false) → ⊥
-names-below n q h none = omega (arith, below-members n q none)
+pub names-some : (n q : ℕ) → 2 ^ n ≤ q → (i : ℕ) × (n ≤ i) × (member q i ≡ true)
+names-some n q h =
+    let some : q / 2 ^ n ≡ 0 → ⊥ = λ e. omega (arith, div-add-mod' q (2 ^ n), mod-lt q (pow-pos n), ap (λ (x : ℕ). x * 2 ^ n) e, zero-mul (2 ^ n)) in
+    let (i, m) = some-member (q / 2 ^ n) some in
+    (n + i, omega arith, sym (member-shift q n i) ∙ m)
 
 -- ---- from the tests to the numbers
 
@@ -48,7 +53,7 @@ in-place n (q ∷ table) e zero h =
 in-place n (q ∷ table) e (suc p) h = in-place n table (or-none (outOfPlace n q) (any (outOfPlace n) table) e .1) p (omega arith)
 
 -- the branches of a test that ends in 0
-pub otherwise : (b : Bool) (r x : ℕ) → (r ≡ 0 → ⊥) → cond b r x ≡ 0 → (b ≡ false) × (x ≡ 0)
+otherwise : (b : Bool) (r x : ℕ) → (r ≡ 0 → ⊥) → cond b r x ≡ 0 → (b ≡ false) × (x ≡ 0)
 otherwise true r x h e = absurd (h e)
 otherwise false r x h e = (refl, e)
 

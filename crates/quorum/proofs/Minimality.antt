@@ -2,7 +2,7 @@
 -- Assumes nothing.
 use mathlib.Core.Bool.{true, false}
 use mathlib.Core.List.{List, [], _∷_}
-use mathlib.Core.Logic.{⊎-elim}
+use mathlib.Core.Logic.{_⊎_, ⊎-elim}
 use mathlib.Core.Path.{_≡_, refl, ap}
 use Prim.Native.Nat.{ℕ, zero, suc, _+_, _≤_, _<_}
 use native.Mathlib.Numerals.{add-one}
@@ -17,6 +17,23 @@ use Rattle.stations.proofs.Members.{contains-members, members-contains}
 use Rattle.quorum.specs.Arbiter.{Within}
 use Rattle.quorum.specs.Family.{quorum}
 use Rattle.quorum.specs.Nested.{nested, comparable}
+
+-- ---- two quorums
+
+-- a quorum that contains or equals the other, on either side
+pub comparable-left : (q p : ℕ) → contains q p ≡ true → comparable q p ≡ true
+comparable-left q p t = or-left (contains q p) (contains p q) t
+
+pub comparable-right : (q p : ℕ) → contains p q ≡ true → comparable q p ≡ true
+comparable-right q p t = or-right (contains q p) (contains p q) t
+
+pub comparable-cases : (q p : ℕ) → comparable q p ≡ true → (contains q p ≡ true) ⊎ (contains p q ≡ true)
+comparable-cases q p t = or-cases (contains q p) (contains p q) t
+
+pub comparable-neither : (q p : ℕ) → contains q p ≡ false → contains p q ≡ false → comparable q p ≡ false
+comparable-neither q p a b = rw (a, b)
+
+-- ---- a table
 
 -- two entries at different places, of which one contains the other
 pub record Nesting (table : List ℕ) : Type 0 where
@@ -48,7 +65,7 @@ nested-some (q ∷ table) e =
     ⊎-elim
     (λ (t′ : contains q (getD table p 0) ≡ true). record { outer = 0; inner = suc p; outer-below = omega arith; inner-below = omega arith; apart = λ x. omega arith; holds = t′ })
     (λ (t′ : contains (getD table p 0) q ≡ true). record { outer = suc p; inner = 0; outer-below = omega arith; inner-below = omega arith; apart = λ x. omega arith; holds = t′ })
-    (or-cases (contains q (getD table p 0)) (contains (getD table p 0) q) t))
+    (comparable-cases q (getD table p 0) t))
     (λ (there : nested table ≡ true). later q table (nested-some table there))
     (or-cases (any (comparable q) table) (nested table) e)
 
@@ -58,10 +75,10 @@ some-nested [] p q a b d t = absurd (omega arith)
 some-nested (x ∷ table) zero zero a b d t = absurd (d refl)
 some-nested (x ∷ table) zero (suc q) a b d t =
     or-left (any (comparable x) table) (nested table)
-    (any-at (comparable x) 0 table q (omega arith) (or-right (contains x (getD table q 0)) (contains (getD table q 0) x) t))
+    (any-at (comparable x) 0 table q (omega arith) (comparable-right x (getD table q 0) t))
 some-nested (x ∷ table) (suc p) zero a b d t =
     or-left (any (comparable x) table) (nested table)
-    (any-at (comparable x) 0 table p (omega arith) (or-left (contains x (getD table p 0)) (contains (getD table p 0) x) t))
+    (any-at (comparable x) 0 table p (omega arith) (comparable-left x (getD table p 0) t))
 some-nested (x ∷ table) (suc p) (suc q) a b d t =
     or-right (any (comparable x) table) (nested table) (some-nested table p q (omega arith) (omega arith) (λ e. d (ap suc e)) t)
 

@@ -22,7 +22,7 @@ pub(crate) fn evenness(n: usize, quorums: &[u16]) -> u8
     ensures { λ r. ⌜ r ≡ even n (now (quorums .entry)) ⌝ }
 {
     let first = quorums_of(quorums, 0);
-    let mut i: usize = 0;
+    let mut i: usize = 1;
     while i < n {
         if quorums_of(quorums, i) != first {
             return 0;

@@ -8,16 +8,17 @@ ghost use Rattle.quorum.specs.Limits.{mostStations, mostQuorums};
 ghost use Rattle.quorum.specs.Scratch.{scratchBytes};
 ghost use Rattle.quorum.specs.Need.{Needs, noNeed};
 ghost use Rattle.quorum.specs.FirstFamily.{firstFamily};
+use crate::MOST_STATIONS;
 
 // The lowest-numbered quorum that lowers what is still needed, again and again: a lower number
 // would have lowered it before, so the numbers ascend, and no other family comes first.
-pub(crate) fn first_family(n: usize, quorums: &[u16], bytes: &[u8]) -> [u8; 12]
+pub(crate) fn first_family(n: usize, quorums: &[u16], bytes: &[u8]) -> [u8; MOST_STATIONS]
     requires { ⌜ (0 < n) × (n ≤ mostStations) × (length (now quorums) ≤ mostQuorums) × (scratchBytes ≤ length (now bytes)) ⌝ }
     requires { ⌜ Needs n (now quorums) (now bytes) ⌝ }
     requires { ⌜ (getD (now bytes) (everyone n) 0 ≡ noNeed → ⊥) ⌝ }
     ensures { λ r. ⌜ cut 0 (getD (now (bytes .entry)) (everyone n) 0) r ≡ firstFamily n (now (quorums .entry)) ⌝ }
 {
-    let mut family = [0u8; 12];
+    let mut family = [0u8; MOST_STATIONS];
     let mut size: usize = 0;
     let mut rest = stations::everyone(n);
     let mut p: usize = 0;

@@ -19,6 +19,13 @@ mod need;
 mod nested;
 mod scratch;
 
+// Document 01's limits: stations, units of the stock, quorums of a table.
+pub const MOST_STATIONS: usize = 12;
+
+pub const MOST_UNITS: usize = 200;
+
+pub const MOST_QUORUMS: usize = 64;
+
 // Refusals of the check, by document 01's numbers. 0 refuses nothing.
 pub const NO_REFUSAL: u8 = 0;
 
@@ -42,7 +49,7 @@ pub struct Checked {
     pub width: usize,
     pub even: u8,
     pub size: usize,
-    pub family: [u8; 12],
+    pub family: [u8; MOST_STATIONS],
 }
 
 // An answer without a width, on the refusals 1 to 5.
@@ -54,7 +61,7 @@ fn refused(refusal: u8) -> Checked
         width: 0,
         even: 0,
         size: 0,
-        family: [0u8; 12],
+        family: [0u8; MOST_STATIONS],
     }
 }
 
@@ -93,7 +100,7 @@ fn answer_plain(n: usize, width: usize, quorums: &[u16]) -> Checked
             width,
             even: 0,
             size: 0,
-            family: [0u8; 12],
+            family: [0u8; MOST_STATIONS],
         };
     }
     Checked {
@@ -101,7 +108,7 @@ fn answer_plain(n: usize, width: usize, quorums: &[u16]) -> Checked
         width,
         even: even::evenness(n, quorums),
         size: 0,
-        family: [0u8; 12],
+        family: [0u8; MOST_STATIONS],
     }
 }
 

@@ -3,12 +3,9 @@ ghost use mathlib.Core.Path.{_≡_};
 ghost use Prim.Native.Nat.{_≤_};
 ghost use Rattle.lists.specs.Search.{any};
 ghost use Rattle.quorum.specs.Limits.{mostStations, upTo, outOfPlace, brokenLimit};
-
-pub(crate) const MOST_STATIONS: usize = 12;
-
-const MOST_UNITS: usize = 200;
-
-const MOST_QUORUMS: usize = 64;
+use crate::MOST_QUORUMS;
+use crate::MOST_STATIONS;
+use crate::MOST_UNITS;
 
 // Whether a quorum is empty or names a station from n on.
 fn has_bad_quorum(n: usize, quorums: &[u16]) -> bool

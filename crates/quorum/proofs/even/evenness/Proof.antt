@@ -1,8 +1,8 @@
 -- `quorum::even::evenness` meets its contract. The loop's invariant: every station below i belongs to as many quorums as station 0.
 -- Assumes nothing.
 use mathlib.Core.Bool.{true, false}
-use mathlib.Core.Path.{_≡_, sym, _∙_}
-use Prim.Native.Nat.{ℕ, _≤_, _<_, _-_}
+use mathlib.Core.Path.{_≡_, refl, sym, _∙_}
+use Prim.Native.Nat.{ℕ, _<_, _-_}
 use native.Mathlib.Omega.{arith}
 use lib.Dec.{eqb}
 use borrow.Author.Count.{below-none, below-more}
@@ -15,7 +15,7 @@ use Rattle.quorum.proofs.even.evenness.Tie as tie
 
 abbrev Inv-loop : tie.InvT-loop
 Inv-loop n quorums first i₀ i =
-    (i ≤ n) × (first ≡ belongs quorums 0) × ((j : ℕ) → j < i → eqb (belongs quorums j) (belongs quorums 0) ≡ true)
+    (first ≡ belongs quorums 0) × ((j : ℕ) → j < i → eqb (belongs quorums j) (belongs quorums 0) ≡ true)
 
 abbrev μ-loop : tie.MeasureT-loop
 μ-loop n quorums first i₀ i = n - i
@@ -24,7 +24,9 @@ quorums-of-requires : tie.Need-quorums-of-requires Inv-loop μ-loop
 quorums-of-requires c κs = search needs
 
 loop-holds : tie.Need-loop-holds Inv-loop μ-loop
-loop-holds c = (search needs, c .quorums-of .ensures, below-none _)
+loop-holds c =
+    let table = c .before .before .args .quorums .now in
+    (c .quorums-of .ensures, below-more _ 0 (below-none _) (eq-eqb (belongs table 0) (belongs table 0) refl))
 
 quorums-of-requires-2 : tie.Need-quorums-of-requires-2 Inv-loop μ-loop
 quorums-of-requires-2 c κs = search needs
@@ -36,7 +38,7 @@ returns c =
     let at = c .before .before .before .loop in
     let table = start .quorums .now in
     let differs : eqb (belongs table (at .i)) (belongs table 0) ≡ false =
-    ne-eqb (belongs table (at .i)) (belongs table 0) (λ e. c .if1 .taken (c .before .quorums-of2 .ensures ∙ e ∙ sym (at .inv .1))) in
+    ne-eqb (belongs table (at .i)) (belongs table 0) (λ e. c .if1 .taken (c .before .quorums-of2 .ensures ∙ e ∙ sym (at .inv .0))) in
     rw (every-false (λ (i : ℕ). eqb (belongs table i) (belongs table 0)) (start .n) (at .i) (omega arith) differs)
 
 add-i : tie.Need-add-i Inv-loop μ-loop
@@ -50,10 +52,9 @@ loop-again c =
     let start = c .before .before .before .before .before .before .args in
     let at = c .before .before .before .loop in
     let table = start .quorums .now in (
-      search needs,
-      at .inv .1,
-      below-more _ (at .i) (at .inv .2)
-          (eq-eqb (belongs table (at .i)) (belongs table 0) (sym (c .before .quorums-of2 .ensures) ∙ c .if1 .left ∙ at .inv .1)),
+      at .inv .0,
+      below-more _ (at .i) (at .inv .1)
+          (eq-eqb (belongs table (at .i)) (belongs table 0) (sym (c .before .quorums-of2 .ensures) ∙ c .if1 .left ∙ at .inv .0)),
     )
 
 returns-2 : tie.Need-returns-2 Inv-loop μ-loop
@@ -62,7 +63,7 @@ returns-2 c =
     let start = c .before .before .before .before .args in
     let at = c .before .loop in
     let table = start .quorums .now in
-    rw (every-true (λ (i : ℕ). eqb (belongs table i) (belongs table 0)) (start .n) (λ i h. at .inv .2 i (omega arith)))
+    rw (every-true (λ (i : ℕ). eqb (belongs table i) (belongs table 0)) (start .n) (λ i h. at .inv .1 i (omega arith)))
 
 pub evenness-spec : {M : Type 1} → statement M
 evenness-spec =

@@ -7,9 +7,9 @@ use lib.ListN.{length, drop, getD}
 use borrow.Author.Needs.{needs}
 use Rattle.lists.specs.Search.{any}
 use Rattle.lists.proofs.Searches.{any-here, any-later, any-end}
-use Rattle.lists.proofs.Tests.{or-left, or-right}
 use Rattle.stations.specs.Sets.{contains}
 use Rattle.quorum.specs.Nested.{comparable}
+use Rattle.quorum.proofs.Minimality.{comparable-left, comparable-right, comparable-neither}
 use Rattle.quorum.proofs.nested.comparable_later.Statement.{statement}
 use Rattle.quorum.proofs.nested.comparable_later.Tie as tie
 
@@ -48,7 +48,7 @@ returns c =
     let quorum = getD table (c .before .before .before .before .before .before .before .args .p) 0 in
     let other = getD table (at .q) 0 in
     sym (sym (at .inv .1) ∙ any-here (comparable quorum) 0 table (at .q) (omega arith)
-    (or-left (contains quorum other) (contains other quorum) (sym (c .before .contains .ensures) ∙ c .if1 .taken)))
+    (comparable-left quorum other (sym (c .before .contains .ensures) ∙ c .if1 .taken)))
 
 contains-requires-2 : tie.Need-contains-requires-2 Inv-loop μ-loop
 contains-requires-2 c κs = search needs
@@ -60,7 +60,7 @@ returns-2 c =
     let quorum = getD table (c .before .before .before .before .before .before .before .before .before .args .p) 0 in
     let other = getD table (at .q) 0 in
     sym (sym (at .inv .1) ∙ any-here (comparable quorum) 0 table (at .q) (omega arith)
-    (or-right (contains quorum other) (contains other quorum) (sym (c .before .contains2 .ensures) ∙ c .if2 .taken)))
+    (comparable-right quorum other (sym (c .before .contains2 .ensures) ∙ c .if2 .taken)))
 
 add-q-2 : tie.Need-add-q-2 Inv-loop μ-loop
 add-q-2 c = search needs
@@ -76,7 +76,7 @@ loop-again c =
     let other = getD table (at .q) 0 in
     let first = sym (c .before .before .before .contains .ensures) ∙ c .before .before .if1 .left in
     let second = sym (c .before .contains2 .ensures) ∙ c .if2 .left in
-    (search needs, sym (any-later (comparable quorum) 0 table (at .q) (omega arith) (rw (first, second))) ∙ at .inv .1)
+    (search needs, sym (any-later (comparable quorum) 0 table (at .q) (omega arith) (comparable-neither quorum other first second)) ∙ at .inv .1)
 
 returns-3 : tie.Need-returns-3 Inv-loop μ-loop
 returns-3 c =
