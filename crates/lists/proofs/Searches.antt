@@ -1,15 +1,15 @@
 -- Searches over lists that are joined or mapped, and tests over the numbers below a bound.
 -- Assumes nothing.
-use mathlib.Core.Bool.{Bool, true, false, _||_, or-assoc}
+use mathlib.Core.Bool.{Bool, true, false, _||_, or-assoc, or-false}
 use mathlib.Core.List.{List, [], _∷_, _++_, map}
 use mathlib.Core.Logic.{⊎-elim}
-use mathlib.Core.Path.{_≡_, refl, sym, ap, _∙_}
+use mathlib.Core.Path.{_≡_, refl, sym, ap, ap₂, _∙_}
 use Prim.Native.Nat.{ℕ, zero, suc, _+_, _≤_, _<_}
 use native.Mathlib.Numerals.{add-one}
 use native.Mathlib.Omega.{arith}
 use lib.ListN.{length, getD, drop, drop-of-length-le}
 use lib.Seq.{drop-cons}
-use Rattle.lists.specs.Search.{any, firstOf, everyBelow}
+use Rattle.lists.specs.Search.{any, firstOf, everyBelow, someBelow}
 use Rattle.lists.proofs.Below.{below-suc}
 use Rattle.lists.proofs.Tests.{known, clash, not-true-false, and-left, and-right, and-both, or-none, or-left, or-right, or-cases}
 
@@ -76,3 +76,30 @@ every-at f (suc n) e i h =
 
 pub every-false : (f : ℕ → Bool) (n i : ℕ) → i < n → f i ≡ false → everyBelow f n ≡ false
 every-false f n i h e = not-true-false (everyBelow f n) (λ t. clash (every-at f n t i h) e)
+
+pub some-at : (f : ℕ → Bool) (n i : ℕ) → i < n → f i ≡ true → someBelow f n ≡ true
+some-at f zero i h t = absurd (omega arith)
+some-at f (suc n) i h t =
+    below-suc {P = λ j. f j ≡ true → someBelow f (suc n) ≡ true} n
+    (λ j p s. or-left (someBelow f n) (f n) (some-at f n j p s)) (λ s. or-right (someBelow f n) (f n) s) i h t
+
+pub some-found : (f : ℕ → Bool) (n : ℕ) → someBelow f n ≡ true → (i : ℕ) × (i < n) × (f i ≡ true)
+some-found f zero e = absurd (clash e refl)
+some-found f (suc n) e =
+    ⊎-elim (λ (t : someBelow f n ≡ true). let (i, h, s) = some-found f n t in (i, omega arith, s))
+    (λ (t : f n ≡ true). (n, omega arith, t))
+    (or-cases (someBelow f n) (f n) e)
+
+-- one number more, of which f does not hold
+pub some-none : (f : ℕ → Bool) (i : ℕ) → someBelow f i ≡ false → f i ≡ false → someBelow f (i + 1) ≡ false
+some-none f i e n = rw (add-one i, e, n)
+
+-- tests that agree below n
+pub some-same : (f g : ℕ → Bool) (n : ℕ) → ((i : ℕ) → i < n → f i ≡ g i) → someBelow f n ≡ someBelow g n
+some-same f g zero h = refl
+some-same f g (suc n) h = ap₂ _||_ (some-same f g n (λ i p. h i (omega arith))) (h n (omega arith))
+
+-- the first number, and the others
+pub some-first : (f : ℕ → Bool) (n : ℕ) → someBelow f (suc n) ≡ (f 0 || someBelow (λ i. f (suc i)) n)
+some-first f zero = sym (or-false (f 0))
+some-first f (suc n) = ap (λ (b : Bool). b || f (suc n)) (some-first f n) ∙ or-assoc (f 0) (someBelow (λ i. f (suc i)) n) (f (suc n))

@@ -2,7 +2,9 @@
 -- Assumes nothing.
 use mathlib.Core.Bool.{Bool, true, false, _&&_, _||_, true≢false}
 use mathlib.Core.Logic.{_⊎_, inl, inr}
-use mathlib.Core.Path.{_≡_, refl, sym, _∙_}
+use mathlib.Core.Path.{_≡_, refl, sym, ap, _∙_}
+use Prim.Native.Nat.{ℕ, suc, compare·suc-suc}
+use lib.Dec.{isEq, eqb}
 
 pub known : (b : Bool) → (b ≡ true) ⊎ (b ≡ false)
 known true = inl refl
@@ -49,3 +51,7 @@ or-none false b e = (refl, e)
 
 pub or-rest : (a b : Bool) → a ≡ false → (a || b) ≡ true → b ≡ true
 or-rest a b n e = rw n at e
+
+-- numbers are equal where their successors are
+pub eqb-suc : (a b : ℕ) → eqb (suc a) (suc b) ≡ eqb a b
+eqb-suc a b = ap isEq (compare·suc-suc a b)

@@ -18,3 +18,8 @@ module _ {A : Type 0} where
 abbrev pub everyBelow : (ℕ → Bool) → ℕ → Bool
 everyBelow f zero = true
 everyBelow f (suc n) = everyBelow f n && f n
+
+-- whether f holds of some number below n
+abbrev pub someBelow : (ℕ → Bool) → ℕ → Bool
+someBelow f zero = false
+someBelow f (suc n) = someBelow f n || f n

@@ -8,6 +8,7 @@ use Prim.Native.Nat.{ℕ, _≤_}
 use native.Mathlib.Decide.{ℕ-discrete, decLe}
 use native.Mathlib.Omega.{arith}
 use Rattle.lists.proofs.Tests.{not-true-false}
+use Rattle.quorum.specs.Accepted.{Accepted}
 use Rattle.quorum.specs.Arbiter.{Arbiter}
 use Rattle.quorum.specs.Limits.{brokenLimit}
 use Rattle.quorum.specs.Nested.{nested}
@@ -19,17 +20,31 @@ use Rattle.quorum.proofs.Lacking.{lacks-iff}
 use Rattle.quorum.proofs.Minimality.{minimal, minimal-nested}
 use Rattle.quorum.proofs.Refusals.{refusal-limit, refusal-five, refusal-six, refusal-later}
 
--- what an accepted table keeps: each test of the check, passed
-pub record Passes (n k : ℕ) (table : List ℕ) (room : ℕ) : Type 0 where
-  pub limits : brokenLimit n k table ≡ 0
-  pub scratch : scratchBytes ≤ room
-  pub common : lacksCommon n k table ≡ false
-  pub plain : nested table ≡ false
+-- ---- accepted tables are the k-arbiters within the limits
+
+module _ (n k : ℕ) (table : List ℕ) where
+  pub accepted-arbiter : Accepted n k table → Arbiter n k table
+  accepted-arbiter a =
+      record {
+        intersection = λ f numbers size. common-member n k table (a .limits) (a .common) f numbers (omega arith);
+        minimality = minimal table (a .plain);
+      }
+
+  pub arbiter-accepted : brokenLimit n k table ≡ 0 → Arbiter n k table → Accepted n k table
+  arbiter-accepted kept arbiter =
+      record {
+        limits = kept;
+        common = not-true-false (lacksCommon n k table) (λ t.
+            let w = lacks-iff n k table kept .0 t in w .none (arbiter .intersection (w .list) (w .numbers) (w .size)));
+        plain = minimal-nested table (arbiter .minimality);
+      }
+
+-- ---- the check
 
 module _ (n k : ℕ) (table : List ℕ) (room : ℕ) where
   -- the tests in turn: a test that fails has its own refusal, which is not 0
-  pub accepted-passes : refusal n k table room ≡ 0 → Passes n k table room
-  accepted-passes e = record { limits = kept; scratch = enough; common = common; plain = plain }
+  pub passed : refusal n k table room ≡ 0 → Accepted n k table × (scratchBytes ≤ room)
+  passed e = (record { limits = kept; common = common; plain = plain }, enough)
     where
       kept : brokenLimit n k table ≡ 0
       kept =
@@ -50,31 +65,15 @@ module _ (n k : ℕ) (table : List ℕ) (room : ℕ) where
           let seven : refusal n k table room ≡ 7 = refusal-later n k table room kept enough common ∙ rw t in
           omega arith)
 
-  pub passes-accepted : Passes n k table room → refusal n k table room ≡ 0
-  passes-accepted p = refusal-later n k table room (p .limits) (p .scratch) (p .common) ∙ rw (p .plain)
+  pub passes : Accepted n k table → scratchBytes ≤ room → refusal n k table room ≡ 0
+  passes a enough = refusal-later n k table room (a .limits) enough (a .common) ∙ rw (a .plain)
 
-  -- a table is accepted exactly when it keeps the limits, scratch is enough, and it is a k-arbiter of RR-2523
+  -- the check refuses nothing exactly where the table keeps the limits, scratch is enough, and the table is a k-arbiter of RR-2523
   pub accepts-arbiters : (refusal n k table room ≡ 0) ↔ ((brokenLimit n k table ≡ 0) × (scratchBytes ≤ room) × Arbiter n k table)
   accepts-arbiters = (to, from)
     where
       to : refusal n k table room ≡ 0 → (brokenLimit n k table ≡ 0) × (scratchBytes ≤ room) × Arbiter n k table
-      to e =
-          let p = accepted-passes e in (
-            p .limits,
-            p .scratch,
-            record {
-              intersection = λ f numbers size. common-member n k table (p .limits) (p .common) f numbers (omega arith);
-              minimality = minimal table (p .plain);
-            },
-          )
+      to e = let (a, enough) = passed e in (a .limits, enough, accepted-arbiter n k table a)
 
       from : (brokenLimit n k table ≡ 0) × (scratchBytes ≤ room) × Arbiter n k table → refusal n k table room ≡ 0
-      from held =
-          let arbiter = held .2 in
-          passes-accepted (record {
-            limits = held .0;
-            scratch = held .1;
-            common = not-true-false (lacksCommon n k table) (λ t.
-                let w = lacks-iff n k table (held .0) .0 t in w .none (arbiter .intersection (w .list) (w .numbers) (w .size)));
-            plain = minimal-nested table (arbiter .minimality);
-          })
+      from held = passes (arbiter-accepted n k table (held .0) (held .2)) (held .1)

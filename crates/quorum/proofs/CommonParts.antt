@@ -3,14 +3,16 @@
 use mathlib.Core.Bool.{true}
 use mathlib.Core.List.{List, [], _∷_}
 use mathlib.Core.Path.{_≡_, refl, sym, _∙_}
-use Prim.Native.Nat.{ℕ, _≤_}
+use Prim.Native.Nat.{ℕ, zero, suc, _≤_, _<_}
 use native.Mathlib.Nat.{le-trans, le-refl}
+use native.Mathlib.Omega.{arith}
 use lib.Bits.{bitAnd, and-le-l, and-zero-l}
+use lib.ListN.{length, getD}
 use Rattle.lists.proofs.Tests.{and-left, and-right, and-both}
 use Rattle.stations.specs.Member.{member}
 use Rattle.stations.proofs.Members.{member-and, and-swap}
 use Rattle.quorum.specs.Arbiter.{InAll}
-use Rattle.quorum.specs.Family.{quorum, commonWithin}
+use Rattle.quorum.specs.Family.{quorum, commonWithin, Numbers}
 
 module _ (table : List ℕ) where
   pub common-le : (s : ℕ) (f : List ℕ) → commonWithin table s f ≤ s
@@ -43,3 +45,14 @@ module _ (table : List ℕ) where
   members-common s i [] m all = m
   members-common s i (p ∷ f) m (InAll.and q rest) =
       members-common (bitAnd s (quorum table p)) i f (member-and s (quorum table p) i ∙ and-both m q) rest
+
+  -- a station that is in the quorum of every place of a list is in all of them
+  pub in-every : (i : ℕ) (f : List ℕ) → ((j : ℕ) → j < length f → member (quorum table (getD f j 0)) i ≡ true) → InAll table i f
+  in-every i [] h = InAll.none
+  in-every i (p ∷ f) h = InAll.and (h 0 (omega arith)) (in-every i f (λ j l. h (suc j) (omega arith)))
+
+-- the quorum number at a place
+pub number-at : (m : ℕ) (f : List ℕ) → Numbers m f → (j : ℕ) → j < length f → getD f j 0 < m
+number-at m f Numbers.none j h = absurd (omega arith)
+number-at m f (Numbers.and lt rest) zero h = lt
+number-at m f (Numbers.and {f = g} lt rest) (suc j) h = number-at m g rest j (omega arith)

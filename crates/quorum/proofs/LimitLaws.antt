@@ -11,9 +11,9 @@ use native.Mathlib.Omega.{arith}
 use lib.Dec.{leb, eqb}
 use lib.ListN.{length}
 use lib.Pow.{pow-pos}
-use borrow.Author.Tests.{leb-true, leb-false, eqb-false, not-false}
+use borrow.Author.Tests.{leb-true, leb-false, eqb-false, not-false, le-leb, lt-leb, ne-eqb}
 use Rattle.lists.specs.Search.{any}
-use Rattle.lists.proofs.Tests.{clash, and-left, and-right, or-none}
+use Rattle.lists.proofs.Tests.{clash, and-left, and-right, and-both, or-none}
 use Rattle.stations.specs.Member.{member}
 use Rattle.stations.proofs.Members.{member-below, member-shift, some-member}
 use Rattle.quorum.specs.Family.{quorum}
@@ -39,7 +39,7 @@ names-some n q h =
 
 -- ---- from the tests to the numbers
 
-up-to : (most x : ℕ) → not (upTo most x) ≡ false → (1 ≤ x) × (x ≤ most)
+pub up-to : (most x : ℕ) → not (upTo most x) ≡ false → (1 ≤ x) × (x ≤ most)
 up-to most x e =
     let t = not-false (upTo most x) e in
     (leb-true 1 x (and-left (leb 1 x) (leb x most) t), leb-true x most (and-right (leb 1 x) (leb x most) t))
@@ -53,7 +53,7 @@ in-place n (q ∷ table) e zero h =
 in-place n (q ∷ table) e (suc p) h = in-place n table (or-none (outOfPlace n q) (any (outOfPlace n) table) e .1) p (omega arith)
 
 -- the branches of a test that ends in 0
-otherwise : (b : Bool) (r x : ℕ) → (r ≡ 0 → ⊥) → cond b r x ≡ 0 → (b ≡ false) × (x ≡ 0)
+pub otherwise : (b : Bool) (r x : ℕ) → (r ≡ 0 → ⊥) → cond b r x ≡ 0 → (b ≡ false) × (x ≡ 0)
 otherwise true r x h e = absurd (h e)
 otherwise false r x h e = (refl, e)
 
@@ -70,3 +70,19 @@ limits-kept n k table e =
       quorums = up-to mostQuorums (length table) three;
       members = in-place n table four;
     }
+
+-- ---- and from the numbers to the tests
+
+upper : (most x : ℕ) → (1 ≤ x) × (x ≤ most) → upTo most x ≡ true
+upper most x h = and-both (le-leb 1 x (h .0)) (le-leb x most (h .1))
+
+all-in-place : (n : ℕ) (table : List ℕ) → ((p : ℕ) → p < length table → (quorum table p ≡ 0 → ⊥) × (quorum table p < 2 ^ n)) → any (outOfPlace n) table ≡ false
+all-in-place n [] h = refl
+all-in-place n (q ∷ table) h =
+    let (some, small) = h 0 (omega arith) in
+    rw (ne-eqb q 0 some, lt-leb (2 ^ n) q small) (all-in-place n table (λ p l. h (suc p) (omega arith)))
+
+pub kept-limits : (n k : ℕ) (table : List ℕ) → Limits n k table → brokenLimit n k table ≡ 0
+unfolding brokenLimit
+kept-limits n k table l =
+    rw (upper mostStations n (l .stations), upper mostUnits k (l .stock), upper mostQuorums (length table) (l .quorums), all-in-place n table (l .members))

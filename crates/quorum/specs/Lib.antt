@@ -8,4 +8,5 @@ pub mod Even
 pub mod Refusal
 pub mod Scratch
 pub mod Answer
+pub mod Accepted
 pub mod Arbiter

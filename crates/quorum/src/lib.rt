@@ -14,7 +14,7 @@ ghost use Rattle.quorum.specs.Answer.{refused as refusedBy, answerTo, an
 
 mod even;
 mod family;
-mod limits;
+pub mod limits;
 mod need;
 mod nested;
 mod scratch;
@@ -25,23 +25,6 @@ pub const MOST_STATIONS: usize = 12;
 pub const MOST_UNITS: usize = 200;
 
 pub const MOST_QUORUMS: usize = 64;
-
-// Refusals of the check, by document 01's numbers. 0 refuses nothing.
-pub const NO_REFUSAL: u8 = 0;
-
-pub const BAD_STATIONS: u8 = 1;
-
-pub const BAD_STOCK: u8 = 2;
-
-pub const BAD_LENGTH: u8 = 3;
-
-pub const BAD_QUORUM: u8 = 4;
-
-pub const SHORT_SCRATCH: u8 = 5;
-
-pub const NO_COMMON_MEMBER: u8 = 6;
-
-pub const NESTED: u8 = 7;
 
 // What the check answers. The family is the first `size` places of its array.
 pub struct Checked {
@@ -96,7 +79,7 @@ fn answer_plain(n: usize, width: usize, quorums: &[u16]) -> Checked
 {
     if nested::is_nested(quorums) {
         return Checked {
-            refusal: NESTED,
+            refusal: refusals::NESTED,
             width,
             even: 0,
             size: 0,
@@ -104,7 +87,7 @@ fn answer_plain(n: usize, width: usize, quorums: &[u16]) -> Checked
         };
     }
     Checked {
-        refusal: NO_REFUSAL,
+        refusal: refusals::NO_REFUSAL,
         width,
         even: even::evenness(n, quorums),
         size: 0,
@@ -123,7 +106,7 @@ fn judge(n: usize, k: usize, quorums: &[u16], scratch: &mut [u8]) -> Checked
     if lacks(k, width) {
         let family = family::first_family(n, quorums, scratch);
         return Checked {
-            refusal: NO_COMMON_MEMBER,
+            refusal: refusals::NO_COMMON_MEMBER,
             width,
             even: 0,
             size: width,
@@ -140,12 +123,12 @@ pub fn check(n: usize, k: usize, quorums: &[u16], scratch: &mut [u8]) -> Checked
     ensures cleaned { λ _. ⌜ now (scratch .exit) ≡ cleaned (now (scratch .entry)) ⌝ }
 {
     let broken = limits::broken_limit(n, k, quorums);
-    if broken != NO_REFUSAL {
+    if broken != refusals::NO_REFUSAL {
         scratch::clean(scratch, scratch::SCRATCH_BYTES);
         return refused(broken);
     }
     if scratch.len() < scratch::SCRATCH_BYTES {
-        return refused(SHORT_SCRATCH);
+        return refused(refusals::SHORT_SCRATCH);
     }
     let checked = judge(n, k, quorums, scratch);
     scratch::clean(scratch, scratch::SCRATCH_BYTES);

@@ -28,7 +28,7 @@ fn has_bad_quorum(n: usize, quorums: &[u16]) -> bool
 }
 
 // Whether x lies in 1..most.
-fn up_to(most: usize, x: usize) -> bool
+pub fn up_to(most: usize, x: usize) -> bool
     ensures { λ r. ⌜ r ≡ upTo most x ⌝ }
 {
     if x < 1 {
@@ -42,16 +42,16 @@ pub(crate) fn broken_limit(n: usize, k: usize, quorums: &[u16]) -> u8
     ensures { λ r. ⌜ r ≡ brokenLimit n k (now (quorums .entry)) ⌝ }
 {
     if !up_to(MOST_STATIONS, n) {
-        return crate::BAD_STATIONS;
+        return refusals::BAD_STATIONS;
     }
     if !up_to(MOST_UNITS, k) {
-        return crate::BAD_STOCK;
+        return refusals::BAD_STOCK;
     }
     if !up_to(MOST_QUORUMS, quorums.len()) {
-        return crate::BAD_LENGTH;
+        return refusals::BAD_LENGTH;
     }
     if has_bad_quorum(n, quorums) {
-        return crate::BAD_QUORUM;
+        return refusals::BAD_QUORUM;
     }
-    crate::NO_REFUSAL
+    refusals::NO_REFUSAL
 }

@@ -1,37 +1,31 @@
 -- The number of members: never more than the stations, and less for a smaller set.
 -- Assumes nothing.
-use mathlib.Core.Bool.{Bool, true, false, cond}
+use mathlib.Core.Bool.{Bool, true, false, cond, not, _&&_}
 use mathlib.Core.Logic.{_⊎_, inl, inr, ⊎-elim, by-cases}
 use mathlib.Core.Path.{_≡_, refl, sym, _∙_}
 use Prim.Native.Nat.{ℕ, zero, suc, _+_, _^_, _≤_, _<_}
 use native.Mathlib.Decide.{decLt}
-use native.Mathlib.Nat.{lt-of-le-of-lt, add-comm, zero-add}
+use native.Mathlib.Nat.{lt-of-le-of-lt}
 use native.Mathlib.Numerals.{add-one}
 use native.Mathlib.Omega.{arith}
 use lib.Bits.{bitAnd, and-le-l}
 use Rattle.lists.proofs.Below.{below-suc}
+use Rattle.lists.proofs.Counting.{many-not, many-pass, many-fail, many-none}
+use Rattle.lists.specs.Counting.{howMany}
 use Rattle.stations.specs.Member.{member}
-use Rattle.stations.specs.Sets.{countBelow}
-use Rattle.stations.proofs.Members.{member-and, member-below, member-ext}
+use Rattle.stations.specs.Sets.{countBelow, everyone}
+use Rattle.stations.proofs.Members.{member-and, member-below, member-ext, member-everyone, member-zero}
 
 -- of n stations at most n are members
 pub count-le : (q n : ℕ) → countBelow q n ≤ n
-unfolding countBelow
-count-le q zero = omega arith
-count-le q (suc n) = go (member q n) (count-le q n)
-  where
-    go : (b : Bool) → countBelow q n ≤ n → cond b 1 0 + countBelow q n ≤ suc n
-    go true h = omega arith
-    go false h = omega arith
+count-le q n = omega (arith, many-not (member q) n)
 
 -- one station more
 pub count-member : (q i : ℕ) → member q i ≡ true → countBelow q i + 1 ≡ countBelow q (i + 1)
-unfolding countBelow
-count-member q i m = rw (add-one i, m) (add-comm (countBelow q i) 1)
+count-member q i m = rw (add-one i) (add-one (countBelow q i) ∙ sym (many-pass (member q) i m))
 
 pub count-other : (q i : ℕ) → member q i ≡ false → countBelow q i ≡ countBelow q (i + 1)
-unfolding countBelow
-count-other q i m = rw (add-one i, m) (sym (zero-add (countBelow q i)))
+count-other q i m = rw (add-one i) (sym (many-fail (member q) i m))
 
 -- among the first n stations the common part with q has fewer members than s, or exactly those of s
 abbrev FewerOrSame : ℕ → ℕ → ℕ → Type 0
@@ -40,7 +34,7 @@ FewerOrSame s q n =
     ⊎ ((countBelow (bitAnd s q) n ≡ countBelow s n) × ((i : ℕ) → i < n → member (bitAnd s q) i ≡ member s i))
 
 one-more : (s q n : ℕ) → FewerOrSame s q n → (a b : Bool) → member s n ≡ a → member q n ≡ b → FewerOrSame s q (suc n)
-unfolding countBelow
+unfolding howMany
 one-more s q n (inl h) true true p r = inl (rw (member-and s q n, p, r) (omega arith))
 one-more s q n (inl h) true false p r = inl (rw (member-and s q n, p, r) (omega arith))
 one-more s q n (inl h) false b p r = inl (rw (member-and s q n, p) (omega arith))
@@ -49,7 +43,7 @@ one-more s q n (inr h) true true p r = inr (rw (member-and s q n, p, r) (omega a
 one-more s q n (inr h) false b p r = inr (rw (member-and s q n, p) (omega arith), below-suc n h.1 (member-and s q n ∙ rw p))
 
 fewer-or-same : (s q n : ℕ) → FewerOrSame s q n
-unfolding countBelow
+unfolding howMany
 fewer-or-same s q zero = inr (refl, λ i h. absurd (omega arith))
 fewer-or-same s q (suc n) = one-more s q n (fewer-or-same s q n) (member s n) (member q n) refl refl
 
@@ -61,3 +55,24 @@ count-fewer s q n h differ = ⊎-elim (λ less. less) (λ same. absurd (differ (
     all below i =
         by-cases (decLt i n) (λ p. below i p)
         (λ p. member-below n (bitAnd s q) i (lt-of-le-of-lt (and-le-l s q) h) (omega arith) ∙ sym (member-below n s i h (omega arith)))
+
+-- two sets have no more members together than there are stations and common members
+pub count-and : (a b n : ℕ) → countBelow a n + countBelow b n ≤ n + countBelow (bitAnd a b) n
+unfolding howMany
+count-and a b zero = omega arith
+count-and a b (suc n) = rw (member-and a b n) (go (member a n) (member b n) (count-and a b n))
+  where
+    go : (x y : Bool) → countBelow a n + countBelow b n ≤ n + countBelow (bitAnd a b) n
+        → cond x 1 0 + countBelow a n + (cond y 1 0 + countBelow b n) ≤ suc n + (cond (x && y) 1 0 + countBelow (bitAnd a b) n)
+    go true true h = omega arith
+    go true false h = omega arith
+    go false true h = omega arith
+    go false false h = omega arith
+
+-- of everyone, all
+pub count-everyone : (n : ℕ) → countBelow (everyone n) n ≡ n
+count-everyone n = omega (arith, many-not (member (everyone n)) n, many-none (λ i. not (member (everyone n) i)) n (λ i h. rw (member-everyone n i h)))
+
+-- the empty set has none
+pub count-none : (n : ℕ) → countBelow 0 n ≡ 0
+count-none n = many-none (member 0) n (λ i h. member-zero i)

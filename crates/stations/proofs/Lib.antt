@@ -1,3 +1,4 @@
 pub mod Members
+pub mod Built
 pub mod Counts
 pub mod Lowest

@@ -117,10 +117,13 @@ unfolding contains
 contains-members a b e i m =
     and-left (member a i) (member b i) (sym (member-and a b i) ∙ ap (λ (q : ℕ). member q i) (eqb-true (bitAnd a b) b e) ∙ m)
 
+-- the common part with a set that contains it is the set itself
+pub within-and : (a b : ℕ) → ((i : ℕ) → member b i ≡ true → member a i ≡ true) → bitAnd a b ≡ b
+within-and a b h = member-ext (bitAnd a b) b (λ i. member-and a b i ∙ and-within (member a i) (member b i) (h i))
+
 pub members-contains : (a b : ℕ) → ((i : ℕ) → member b i ≡ true → member a i ≡ true) → contains a b ≡ true
 unfolding contains
-members-contains a b h =
-    eq-eqb (bitAnd a b) b (member-ext (bitAnd a b) b (λ i. member-and a b i ∙ and-within (member a i) (member b i) (h i)))
+members-contains a b h = eq-eqb (bitAnd a b) b (within-and a b h)
 
 -- ---- the first n stations
 

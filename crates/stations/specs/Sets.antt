@@ -3,7 +3,8 @@
 use mathlib.Core.Bool.{Bool, cond}
 use Prim.Native.Nat.{ℕ, zero, suc, _+_, _-_, _^_}
 use lib.Bits.{bitAnd}
-use lib.Dec.{eqb}
+use lib.Dec.{eqb, ltb}
+use Rattle.lists.specs.Counting.{howMany}
 use Rattle.stations.specs.Member.{member}
 
 -- a set has room for the stations 0 to 15: "a 16-bit number"
@@ -14,14 +15,22 @@ places = 16
 abbrev pub everyone : ℕ → ℕ
 everyone n = 2 ^ n - 1
 
+-- the set of station i alone; no set has a place for a station from 16 on
+unfoldable pub only : ℕ → ℕ
+only i = cond (ltb i places) (2 ^ i) 0
+
 -- whether a contains or equals b
 unfoldable pub contains : ℕ → ℕ → Bool
 contains a b = eqb (bitAnd a b) b
 
 -- the number of members of q among the stations 0 to n - 1
-unfoldable pub countBelow : ℕ → ℕ → ℕ
-countBelow q zero = 0
-countBelow q (suc n) = cond (member q n) 1 0 + countBelow q n
+abbrev pub countBelow : ℕ → ℕ → ℕ
+countBelow q n = howMany (member q) n
+
+-- the set of the stations below n that f holds of
+unfoldable pub setOf : (ℕ → Bool) → ℕ → ℕ
+setOf f zero = 0
+setOf f (suc n) = cond (f n) (2 ^ n) 0 + setOf f n
 
 -- the lowest member of q among i and the stations that follow it, of which there are as many as the last argument says; 16 if there is none
 unfoldable pub lowestAmong : ℕ → ℕ → ℕ → ℕ

@@ -3,7 +3,7 @@ ghost use mathlib.Core.Path.{_≡_};
 ghost use Prim.Native.Nat.{min};
 ghost use lib.Bits.{bitAnd};
 ghost use Rattle.stations.specs.Member.{member};
-ghost use Rattle.stations.specs.Sets.{everyone as allOf, contains as containsAll, countBelow, places, lowestFrom};
+ghost use Rattle.stations.specs.Sets.{everyone as allOf, only as onlyOf, contains as containsAll, countBelow, places, lowestFrom};
 
 // A mask has places for the stations 0 to 15.
 pub const PLACES: usize = 16;
@@ -18,6 +18,16 @@ pub fn has(q: u16, i: usize) -> bool
     (q >> i) % 2 == 1
 }
 
+// The set of station i alone. A mask has no place for a station from 16 on.
+pub fn only(i: usize) -> u16
+    ensures { λ r. ⌜ r ≡ onlyOf i ⌝ }
+{
+    if PLACES <= i {
+        return 0;
+    }
+    1u16 << i
+}
+
 // The set of the stations 0 to n - 1. A mask has no place for a station from 16 on.
 pub fn everyone(n: usize) -> u16
     ensures { λ r. ⌜ r ≡ allOf (min n places) ⌝ }
@@ -25,7 +35,7 @@ pub fn everyone(n: usize) -> u16
     if PLACES <= n {
         return 65535;
     }
-    (1u16 << n) - 1
+    only(n) - 1
 }
 
 // The stations that are in both sets.

@@ -5,6 +5,7 @@ use mathlib.Core.Path.{_≡_, sym, ap, _∙_}
 use Prim.Native.Nat.{ℕ, _+_, _≤_, _-_}
 use native.Mathlib.Omega.{arith}
 use borrow.Author.Needs.{needs}
+use Rattle.lists.specs.Counting.{howMany}
 use Rattle.stations.specs.Sets.{countBelow, places}
 use Rattle.stations.proofs.Counts.{count-le, count-member, count-other}
 use Rattle.stations.proofs.count.Statement.{statement}
@@ -17,7 +18,7 @@ abbrev μ-loop : tie.MeasureT-loop
 μ-loop q members₀ i₀ members i = places - i
 
 loop-holds : tie.Need-loop-holds Inv-loop μ-loop
-unfolding countBelow
+unfolding howMany
 loop-holds c = search needs
 
 has-requires : tie.Need-has-requires Inv-loop μ-loop

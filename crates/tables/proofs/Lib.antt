@@ -1,0 +1,9 @@
+pub mod Making
+pub mod SingletonArbiter
+pub mod Coordinates
+pub mod CubeStations
+pub mod CubeArbiter
+pub mod Choosing
+pub mod SetsOfSize
+pub mod WritingSets
+pub mod UniformArbiter

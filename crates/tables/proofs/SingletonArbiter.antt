@@ -1,0 +1,60 @@
+-- A singleton is accepted for every k: its one quorum has its one station.
+-- Assumes nothing.
+use mathlib.Core.Bool.{not}
+use mathlib.Core.List.{List}
+use mathlib.Core.Path.{_≡_}
+use Prim.Native.Nat.{ℕ, zero, suc, _^_, _≤_, _<_}
+use native.Mathlib.Omega.{arith}
+use lib.Dec.{leb}
+use lib.Pow.{pow-pos, pow-lt}
+use borrow.Author.Tests.{leb-false}
+use Rattle.stations.proofs.Built.{member-only}
+use Rattle.quorum.specs.Accepted.{Accepted}
+use Rattle.quorum.specs.Arbiter.{InAll}
+use Rattle.quorum.specs.Family.{quorum, Numbers}
+use Rattle.quorum.specs.Limits.{mostStations, mostUnits, upTo}
+use Rattle.quorum.proofs.Accepts.{arbiter-accepted}
+use Rattle.quorum.proofs.LimitLaws.{Limits, kept-limits, up-to, otherwise}
+use Rattle.tables.specs.Singleton.{singletonTable, singletonRefusal}
+use Rattle.tables.proofs.Making.{room-kept}
+
+-- what its tests leave
+pub record SingletonKept (n station room : ℕ) : Type 0 where
+  pub stations : (1 ≤ n) × (n ≤ mostStations)
+  pub below : station < n
+  pub enough : 1 ≤ room
+
+pub singleton-kept : (n station room : ℕ) → singletonRefusal n station room ≡ 0 → SingletonKept n station room
+unfolding singletonRefusal singletonTable
+singleton-kept n station room e =
+    let (one, rest) = otherwise (not (upTo mostStations n)) 1 _ (λ z. omega arith) e in
+    let (eight, end) = otherwise (leb n station) 8 _ (λ z. omega arith) rest in
+    record { stations = up-to mostStations n one; below = leb-false n station eight; enough = room-kept 1 room end .1 }
+
+-- the station is in every quorum of every list
+in-all : (station : ℕ) (f : List ℕ) → Numbers 1 f → InAll (singletonTable station) station f
+unfolding singletonTable
+in-all station f Numbers.none = InAll.none
+in-all station f (Numbers.and {p} lt rest) =
+    let first : p ≡ 0 = omega arith in
+    InAll.and {p = p} (rw first (member-only station)) (in-all station _ rest)
+
+-- every singleton that is written is accepted for every k
+pub singleton-accepted : (n station room k : ℕ) → singletonRefusal n station room ≡ 0 → (1 ≤ k) × (k ≤ mostUnits) → Accepted n k (singletonTable station)
+unfolding singletonTable
+singleton-accepted n station room k e stock =
+    arbiter-accepted n k (singletonTable station) (kept-limits n k (singletonTable station) limits)
+    (record {
+      intersection = λ f numbers size. record { station = station; below = kept .below; in-all = in-all station f numbers };
+      minimality = λ p q hp hq apart within. apart (omega arith);
+    })
+  where
+    kept : SingletonKept n station room
+    kept = singleton-kept n station room e
+
+    only-one : (p : ℕ) → p < 1 → (quorum (singletonTable station) p ≡ 0 → ⊥) × (quorum (singletonTable station) p < 2 ^ n)
+    only-one zero h = ((λ z. omega (arith, pow-pos station)), pow-lt (kept .below))
+    only-one (suc p) h = absurd (omega arith)
+
+    limits : Limits n k (singletonTable station)
+    limits = record { stations = kept .stations; stock = stock; quorums = (omega arith, omega arith); members = only-one }

@@ -1,0 +1,29 @@
+-- The table of all sets of one size.
+use mathlib.Core.Bool.{cond, not}
+use mathlib.Core.List.{List}
+use Prim.Native.Nat.{ℕ, _+_, _*_, _/_, _^_}
+use lib.Dec.{eqb}
+use lib.ListN.{length}
+use Rattle.lists.specs.Counting.{numbersBelow}
+use Rattle.stations.specs.Sets.{countBelow}
+use Rattle.quorum.specs.Limits.{mostStations, mostUnits, upTo}
+use Rattle.tables.specs.Made.{noRoom}
+
+-- all sets of s of the stations below n, by ascending number
+unfoldable pub setsOf : ℕ → ℕ → List ℕ
+setsOf n s = numbersBelow (λ q. eqb (countBelow q n) s) (2 ^ n)
+
+-- "floor(k × n / (k + 1)) + 1 stations"
+unfoldable pub uniformSize : ℕ → ℕ → ℕ
+uniformSize n k = k * n / (k + 1) + 1
+
+-- "Uniform (from n and k): all sets of floor(k × n / (k + 1)) + 1 stations, by ascending number."
+unfoldable pub uniformTable : ℕ → ℕ → List ℕ
+uniformTable n k = setsOf n (uniformSize n k)
+
+-- "Order of tests: 1 and 2 where n and k are given, 8, 17, 18, 16": 1 "n outside 1..12", 2 "k outside 1..200"
+unfoldable pub uniformRefusal : ℕ → ℕ → ℕ → ℕ
+uniformRefusal n k room =
+    cond (not (upTo mostStations n)) 1
+    (cond (not (upTo mostUnits k)) 2
+    (noRoom (length (uniformTable n k)) room))
