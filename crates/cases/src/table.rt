@@ -42,7 +42,7 @@ fn print_scratch(scratch: &[u8]) {
     report::text(b"\n");
 }
 
-fn print_answer(checked: quorum::Checked) {
+pub(crate) fn print_answer(checked: quorum::Checked) {
     report::number(b" table=", checked.refusal as usize);
     report::number(b" width=", checked.width);
     report::number(b" even=", checked.even as usize);

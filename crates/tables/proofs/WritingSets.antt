@@ -36,23 +36,26 @@ module _ (out : List ℕ) (at above n : ℕ) where
       let without = map (λ q. above + q) (setsOf m (suc r)) in
       let with′ = map (λ q. above + 2 ^ m + q) (setsOf m r) in
       let size : length without ≡ choose m (suc r) = length-map (setsOf m (suc r)) (λ q. above + q) ∙ sets-length m (suc r) in
-      let both : map (λ q. above + q) (setsOf (suc m) (suc r)) ≡ without ++ with′ =
-      ap (map (λ q. above + q)) (sets-split m r) ∙ map-append (λ q. above + q) (setsOf m (suc r)) (map (λ q. 2 ^ m + q) (setsOf m r))
+      let both : map (λ q. above + q) (setsOf (suc m) (suc r)) ≡ without ++ with′ = ap (map (λ q. above + q)) (sets-split m r) ∙ map-append (λ q. above + q) (setsOf m (suc r)) (map (λ q. 2 ^ m + q) (setsOf m r))
       ∙ ap (λ (xs : List ℕ). without ++ xs)
       (map-map (λ q. above + q) (λ q. 2 ^ m + q) (setsOf m r)
       ∙ ap (λ (g : ℕ → ℕ). map g (setsOf m r)) (fun-ext (λ q. sym (add-assoc above (2 ^ m) q)))) in
       ap (λ (x : ℕ). sets (sets out at without) (at + x) with′) (sym size) ∙ sym (sets-append out at without with′) ∙ ap (sets out at) (sym both)
 
-  -- what the first half left, where it ended, and the last station, are what the second half begins with
-  pub stored-halves : (s : ℕ) → 1 ≤ n → 1 ≤ s → (first : List ℕ) (next last : ℕ)
-      → first ≡ stored out at above (n - 1) s → next ≡ at + choose (n - 1) s → last ≡ 2 ^ (n - 1)
-      → stored first next (above + last) (n - 1) (s - 1) ≡ stored out at above n s
-  stored-halves s h l first next last a b c =
+  halves : (s : ℕ) → 1 ≤ n → 1 ≤ s
+      → stored (stored out at above (n - 1) s) (at + choose (n - 1) s) (above + 2 ^ (n - 1)) (n - 1) (s - 1) ≡ stored out at above n s
+  halves s h l =
       let n-last : suc (n - 1) ≡ n = omega arith in
       let s-last : suc (s - 1) ≡ s = omega arith in
-      rw (a, b, c)
-      (subst (λ (x : ℕ). stored (stored out at above (n - 1) x) (at + choose (n - 1) x) (above + 2 ^ (n - 1)) (n - 1) (s - 1) ≡ stored out at above n x) s-last
-      (join (n - 1) (s - 1) ∙ ap (λ (x : ℕ). stored out at above x (suc (s - 1))) n-last))
+      subst (λ (x : ℕ). stored (stored out at above (n - 1) x) (at + choose (n - 1) x) (above + 2 ^ (n - 1)) (n - 1) (s - 1) ≡ stored out at above n x) s-last
+      (join (n - 1) (s - 1) ∙ ap (λ (x : ℕ). stored out at above x (suc (s - 1))) n-last)
+
+  -- what the first half left, where it ended, and the last station, are what the second half begins with
+  pub stored-halves : (s : ℕ) → 1 ≤ n → 1 ≤ s → (first second : List ℕ) (next last : ℕ)
+      → first ≡ stored out at above (n - 1) s → next ≡ at + choose (n - 1) s → last ≡ 2 ^ (n - 1)
+      → second ≡ stored first next (above + last) (n - 1) (s - 1)
+      → second ≡ stored out at above n s
+  stored-halves s h l first second next last a b c d = d ∙ rw (a, b, c) (halves s h l)
 
 -- a higher station more
 pub above-fits : (n above : ℕ) → 1 ≤ n → above + 2 ^ n ≡ above + 2 ^ (n - 1) + 2 ^ (n - 1)

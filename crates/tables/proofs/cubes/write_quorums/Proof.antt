@@ -17,7 +17,7 @@ abbrev Inv-loop : tie.InvT-loop
 Inv-loop a k n out₀ p₀ out p = (p ≤ n) × (length out ≡ length out₀) × (out ≡ sets out₀ 0 (each (cubeQuorum a k) p))
 
 abbrev μ-loop : tie.MeasureT-loop
-μ-loop a k n out₀ p₀ out p = n - p
+μ-loop a k n out₀ p₀ out p = length out₀ - p
 
 loop-holds : tie.Need-loop-holds Inv-loop μ-loop
 unfolding each

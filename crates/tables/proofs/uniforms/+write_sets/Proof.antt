@@ -164,8 +164,8 @@ write-sets-returns-3 t c =
     let first = c .before .before .before .before .before .before .before .write-sets in
     let second = c .before .before .write-sets2 in (
       omega (arith, choose-last n size (omega arith) (omega arith), first .ensures .0, second .ensures .0),
-      second .ensures .1 ∙ stored-halves (start .args .out .now) (start .args .at) (start .args .above) n size (omega arith) (omega arith)
-          (first .last .1 .1 .1 .1 .0) (first .result) (c .before .before .before .before .only .result) (first .ensures .1) (first .ensures .0) (c .before .before .before .before .only .ensures ∙ only-below (n - 1) (omega (arith, start .pre .1 .0))),
+      stored-halves (start .args .out .now) (start .args .at) (start .args .above) n size (omega arith) (omega arith)
+          (first .last .1 .1 .1 .1 .0) (second .last .1 .1 .1 .1 .0) (first .result) (c .before .before .before .before .only .result) (first .ensures .1) (first .ensures .0) (c .before .before .before .before .only .ensures ∙ only-below (n - 1) (omega (arith, start .pre .1 .0))) (second .ensures .1),
     )
 
 pub +write-sets-spec : {M : Type 1} → statement M

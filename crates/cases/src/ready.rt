@@ -1,0 +1,148 @@
+// The ready-made tables: each maker's answer and table, and what the check says of the table.
+ghost use Prim.Native.Nat.{_≤_};
+use crate::report;
+use crate::table;
+
+// The entries of a buffer before a table is made: no quorum of twelve stations.
+const BEFORE: u16 = 65535;
+
+const ROOM: usize = 70;
+
+// How many entries are as they were.
+fn kept(out: &[u16]) -> usize {
+    let mut found: usize = 0;
+    let mut i: usize = 0;
+    while i < out.len() {
+        if out[i] == BEFORE {
+            found += 1;
+        }
+        i += 1;
+    }
+    found
+}
+
+fn print_members(quorums: &[u16]) {
+    let mut p: usize = 0;
+    while p < quorums.len() {
+        let quorum = quorums[p];
+        report::number(b" ", quorum as usize);
+        p += 1;
+    }
+}
+
+// The check's answer to the table at a stock of k.
+fn print_check(n: usize, k: usize, quorums: &[u16]) {
+    report::number(b" | k=", k);
+    let mut scratch = [0u8; 4096];
+    let checked = quorum::check(n, k, quorums, &mut scratch);
+    table::print_answer(checked);
+}
+
+fn print_table(n: usize, k: usize, quorums: &[u16])
+    requires { ⌜ k ≤ 200 ⌝ }
+{
+    report::text(b" members");
+    print_members(quorums);
+    print_check(n, k, quorums);
+    print_check(n, k + 1, quorums);
+}
+
+// The answer, how many entries of the buffer are as they were, and where a table was made its quorums and the
+// check's answers at k and at k + 1.
+pub(crate) fn print_made(made: tables::Made, n: usize, k: usize, out: &[u16])
+    requires { ⌜ k ≤ 200 ⌝ }
+{
+    report::number(b" made=", made.refusal as usize);
+    let quorums = made.quorums;
+    report::number(b" quorums=", quorums);
+    report::number(b" kept=", kept(out));
+    if quorums == 0 {
+        report::text(b"\n");
+        return;
+    }
+    if quorums <= out.len() {
+        print_table(n, k, &out[..quorums]);
+    }
+    report::text(b"\n");
+}
+
+// The singleton of one of n stations; it has no k of its own, and is checked at 1 and 2.
+fn singleton(n: usize, station: usize) {
+    report::number(b"singleton n=", n);
+    report::number(b" station=", station);
+    let mut out = [BEFORE; ROOM];
+    let made = tables::singleton(n, station, &mut out);
+    print_made(made, n, 1, &out);
+}
+
+fn uniform(n: usize, k: usize)
+    requires { ⌜ k ≤ 200 ⌝ }
+{
+    report::number(b"uniform n=", n);
+    report::number(b" k=", k);
+    let mut out = [BEFORE; ROOM];
+    let made = tables::uniform(n, k, &mut out);
+    print_made(made, n, k, &out);
+}
+
+// A cube has as many stations as quorums.
+fn cube(a: usize, k: usize)
+    requires { ⌜ k ≤ 200 ⌝ }
+{
+    report::number(b"cube a=", a);
+    report::number(b" k=", k);
+    let mut out = [BEFORE; ROOM];
+    let made = tables::cube(a, k, &mut out);
+    let n = made.quorums;
+    print_made(made, n, k, &out);
+}
+
+fn singletons_of(n: usize) {
+    let mut station: usize = 0;
+    while station < n {
+        singleton(n, station);
+        station += 1;
+    }
+}
+
+// From k = n - 1 on the one set of all stations is all that there is.
+fn uniforms_of(n: usize)
+    requires { ⌜ n ≤ 12 ⌝ }
+{
+    let mut k: usize = 1;
+    while k <= n {
+        uniform(n, k);
+        k += 1;
+    }
+}
+
+fn cubes_of(a: usize) {
+    let mut k: usize = 1;
+    while k <= 3 {
+        cube(a, k);
+        k += 1;
+    }
+}
+
+fn small_tables() {
+    let mut n: usize = 1;
+    while n <= quorum::MOST_STATIONS {
+        singletons_of(n);
+        uniforms_of(n);
+        n += 1;
+    }
+}
+
+fn cubes() {
+    let mut a: usize = 0;
+    while a <= 4 {
+        cubes_of(a);
+        a += 1;
+    }
+}
+
+// Every singleton and uniform table of up to twelve stations, and the cubes.
+pub(crate) fn tables() {
+    small_tables();
+    cubes();
+}
