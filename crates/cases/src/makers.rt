@@ -1,10 +1,9 @@
 // The makers' own examples: P10, and each of their refusals where two could be given.
 use crate::ready;
+use crate::ready::BEFORE;
 use crate::report;
 
-// The entries of a buffer before a table is made: no quorum of twelve stations.
-const BEFORE: u16 = 65535;
-
+// No argument of a maker can be larger.
 const LARGEST: usize = 18446744073709551615;
 
 // The first quorum, and the number of its members.

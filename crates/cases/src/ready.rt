@@ -4,7 +4,7 @@ use crate::report;
 use crate::table;
 
 // The entries of a buffer before a table is made: no quorum of twelve stations.
-const BEFORE: u16 = 65535;
+pub(crate) const BEFORE: u16 = 65535;
 
 const ROOM: usize = 70;
 

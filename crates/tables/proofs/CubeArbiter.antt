@@ -1,24 +1,22 @@
 -- A cube is accepted for its k. Of any k + 1 quorums, the station whose coordinate i is that of the i-th quorum's own station is in all
 -- of them. Of two stations p and q, the quorum of p has a station that agrees with p where p and q differ and with q nowhere.
 -- Assumes nothing.
-use mathlib.Core.Bool.{Bool, true, false, cond, not, _&&_, _||_}
+use mathlib.Core.Bool.{Bool, true, false, cond, not}
 use mathlib.Core.List.{List}
 use mathlib.Core.Logic.{by-cases}
-use mathlib.Core.Path.{_≡_, refl, sym, ap, ap₂, _∙_}
-use Prim.Native.Nat.{ℕ, zero, suc, _+_, _-_, _*_, _/_, _%_, _^_, _≤_, _<_}
+use mathlib.Core.Path.{_≡_, refl, sym, ap, _∙_}
+use Prim.Native.Nat.{ℕ, _+_, _^_, _≤_, _<_}
 use native.Mathlib.Decide.{ℕ-discrete, decLt}
-use native.Mathlib.Nat.{pow-suc, pow-succ', pow-zero, mod-lt, one-le-pow}
+use native.Mathlib.Nat.{one-le-pow}
 use native.Mathlib.Omega.{arith}
 use lib.Dec.{eqb, ltb}
 use lib.ListN.{length, getD}
 use borrow.Author.Tests.{eq-eqb, eqb-true, eqb-false, ne-eqb, ltb-false}
-use Rattle.lists.specs.Counting.{howMany}
-use Rattle.lists.proofs.Counting.{many-not, many-same, many-others, many-digits, each-length, each-at}
+use Rattle.lists.proofs.Counting.{each-length, each-at}
 use Rattle.lists.proofs.Searches.{some-at, some-found}
 use Rattle.lists.proofs.Tests.{clash, or-none}
 use Rattle.stations.specs.Member.{member}
-use Rattle.stations.specs.Sets.{countBelow}
-use Rattle.stations.proofs.Built.{member-set, set-below, count-set}
+use Rattle.stations.proofs.Built.{member-set, set-below}
 use Rattle.stations.proofs.Members.{member-zero}
 use Rattle.quorum.specs.Accepted.{Accepted}
 use Rattle.quorum.specs.Arbiter.{Common, Within}
@@ -29,34 +27,7 @@ use Rattle.quorum.proofs.LimitLaws.{Limits, kept-limits, up-to, otherwise}
 use Rattle.quorum.proofs.CommonParts.{in-every, number-at}
 use Rattle.tables.specs.Cube.{cubeStations, stationAt, coordinate, agree, cubeQuorum, cubeTable, noCube, cubeRefusal}
 use Rattle.tables.proofs.Making.{room-kept}
-use Rattle.tables.proofs.Coordinates.{coordinate-lt, station-below, station-has, station-ext, agree-first}
-
--- ---- how many stations a quorum has
-
--- those that agree with p in none of the first d coordinates
-strangers : (a d p : ℕ) → 0 < a → howMany (λ q. not (agree a d p q)) (a ^ d) ≡ (a - 1) ^ d
-unfolding howMany agree
-strangers a zero p some = ap (howMany (λ q. not (agree a 0 p q))) (pow-zero a) ∙ sym (pow-zero (a - 1))
-strangers a (suc d) p some =
-    ap (howMany (λ q. not (agree a (suc d) p q))) (pow-suc a d)
-    ∙ many-same _ (λ q. not (eqb (p % a) (q % a)) && not (agree a d (p / a) (q / a))) (a ^ d * a) (λ q h. ap not (agree-first a d p q) ∙ neither (eqb (p % a) (q % a)) (agree a d (p / a) (q / a)))
-    ∙ many-digits (λ r. not (eqb (p % a) r)) (λ q. not (agree a d (p / a) q)) a (a ^ d)
-    ∙ ap₂ _*_ others (strangers a d (p / a) some)
-    ∙ sym (pow-succ' (a - 1) d)
-  where
-    neither : (x y : Bool) → not (x || y) ≡ (not x && not y)
-    neither true y = refl
-    neither false y = refl
-
-    others : howMany (λ r. not (eqb (p % a) r)) a ≡ a - 1
-    others = omega (arith, many-others (p % a) a (mod-lt p some))
-
--- all others are members
-pub cube-size : (a k p : ℕ) → 0 < a → countBelow (cubeQuorum a k p) (cubeStations a k) ≡ cubeStations a k - (a - 1) ^ (k + 1)
-unfolding cubeQuorum
-cube-size a k p some =
-    count-set (agree a (k + 1) p) (cubeStations a k)
-    ∙ omega (arith, many-not (agree a (k + 1) p) (cubeStations a k), strangers a (k + 1) p some)
+use Rattle.tables.proofs.Coordinates.{coordinate-lt, station-below, station-has, station-ext}
 
 -- ---- a coordinate that is x where x and y differ, and never y
 

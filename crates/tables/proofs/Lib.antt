@@ -2,6 +2,7 @@ pub mod Making
 pub mod SingletonArbiter
 pub mod Coordinates
 pub mod CubeStations
+pub mod CubeSize
 pub mod CubeArbiter
 pub mod Choosing
 pub mod SetsOfSize

@@ -33,14 +33,29 @@ module _ (out : List ℕ) (at above n : ℕ) where
 
   join : (m r : ℕ) → stored (stored out at above m (suc r)) (at + choose m (suc r)) (above + 2 ^ m) m r ≡ stored out at above (suc m) (suc r)
   join m r =
-      let without = map (λ q. above + q) (setsOf m (suc r)) in
-      let with′ = map (λ q. above + 2 ^ m + q) (setsOf m r) in
-      let size : length without ≡ choose m (suc r) = length-map (setsOf m (suc r)) (λ q. above + q) ∙ sets-length m (suc r) in
-      let both : map (λ q. above + q) (setsOf (suc m) (suc r)) ≡ without ++ with′ = ap (map (λ q. above + q)) (sets-split m r) ∙ map-append (λ q. above + q) (setsOf m (suc r)) (map (λ q. 2 ^ m + q) (setsOf m r))
-      ∙ ap (λ (xs : List ℕ). without ++ xs)
-      (map-map (λ q. above + q) (λ q. 2 ^ m + q) (setsOf m r)
-      ∙ ap (λ (g : ℕ → ℕ). map g (setsOf m r)) (fun-ext (λ q. sym (add-assoc above (2 ^ m) q)))) in
-      ap (λ (x : ℕ). sets (sets out at without) (at + x) with′) (sym size) ∙ sym (sets-append out at without with′) ∙ ap (sets out at) (sym both)
+      ap (λ (x : ℕ). sets (sets out at without) (at + x) with-last) (sym size)
+      ∙ sym (sets-append out at without with-last)
+      ∙ ap (sets out at) (sym both)
+    where
+      without : List ℕ
+      without = map (λ q. above + q) (setsOf m (suc r))
+
+      with-last : List ℕ
+      with-last = map (λ q. above + 2 ^ m + q) (setsOf m r)
+
+      size : length without ≡ choose m (suc r)
+      size = length-map (setsOf m (suc r)) (λ q. above + q) ∙ sets-length m (suc r)
+
+      moved : map (λ q. above + q) (map (λ q. 2 ^ m + q) (setsOf m r)) ≡ with-last
+      moved =
+          map-map (λ q. above + q) (λ q. 2 ^ m + q) (setsOf m r)
+          ∙ ap (λ (g : ℕ → ℕ). map g (setsOf m r)) (fun-ext (λ q. sym (add-assoc above (2 ^ m) q)))
+
+      both : map (λ q. above + q) (setsOf (suc m) (suc r)) ≡ without ++ with-last
+      both =
+          ap (map (λ q. above + q)) (sets-split m r)
+          ∙ map-append (λ q. above + q) (setsOf m (suc r)) (map (λ q. 2 ^ m + q) (setsOf m r))
+          ∙ ap (λ (xs : List ℕ). without ++ xs) moved
 
   halves : (s : ℕ) → 1 ≤ n → 1 ≤ s
       → stored (stored out at above (n - 1) s) (at + choose (n - 1) s) (above + 2 ^ (n - 1)) (n - 1) (s - 1) ≡ stored out at above n s
