@@ -90,15 +90,6 @@ module _ (f g : ℕ → Bool) (a : ℕ) where
 
 -- ---- the list of those that pass
 
-pub numbers-length : (f : ℕ → Bool) (n : ℕ) → length (numbersBelow f n) ≡ howMany f n
-unfolding numbersBelow howMany
-numbers-length f zero = refl
-numbers-length f (suc n) = length-append (numbersBelow f n) (cond (f n) (n ∷ []) []) ∙ go (f n) (numbers-length f n)
-  where
-    go : (b : Bool) → length (numbersBelow f n) ≡ howMany f n → length (numbersBelow f n) + length (cond b (n ∷ []) []) ≡ cond b 1 0 + howMany f n
-    go true h = omega arith
-    go false h = omega arith
-
 pub numbers-same : (f g : ℕ → Bool) (n : ℕ) → ((i : ℕ) → i < n → f i ≡ g i) → numbersBelow f n ≡ numbersBelow g n
 unfolding numbersBelow
 numbers-same f g zero h = refl
