@@ -1,6 +1,6 @@
 -- The number of stations of a cube, a^(k + 1), where it is at most 12.
 -- Assumes nothing.
-use mathlib.Core.Bool.{true, false, cond}
+use mathlib.Core.Bool.{true, false}
 use mathlib.Core.Logic.{⊎-elim, by-cases}
 use mathlib.Core.Path.{_≡_, sym, ap, _∙_}
 use Prim.Native.Nat.{ℕ, zero, suc, _+_, _*_, _/_, _^_, _≤_, _<_}
@@ -12,16 +12,12 @@ use lib.Dec.{eqb, ltb}
 use borrow.Author.Tests.{lt-ltb, le-ltb, eq-eqb, ne-eqb}
 use Rattle.lists.proofs.Tests.{known, or-left, or-right}
 use Rattle.quorum.specs.Limits.{mostStations}
-use Rattle.tables.specs.Cube.{cubeStations, noCube}
+use Rattle.tables.specs.Cube.{cubeStations, boundedStations, noCube}
 
--- the number where it is at most 12, else 0
-abbrev pub bounded : ℕ → ℕ → ℕ
-bounded a k = cond (ltb mostStations (cubeStations a k)) 0 (cubeStations a k)
-
-pub bounded-within : (a k n : ℕ) → n ≡ cubeStations a k → n ≤ mostStations → n ≡ bounded a k
+pub bounded-within : (a k n : ℕ) → n ≡ cubeStations a k → n ≤ mostStations → n ≡ boundedStations a k
 bounded-within a k n e h = rw (le-ltb mostStations (cubeStations a k) (omega arith)) e
 
-pub bounded-beyond : (a k : ℕ) → mostStations < cubeStations a k → 0 ≡ bounded a k
+pub bounded-beyond : (a k : ℕ) → mostStations < cubeStations a k → 0 ≡ boundedStations a k
 bounded-beyond a k h = rw (lt-ltb mostStations (cubeStations a k) h)
 
 -- 0 is 0, and 1 is 1, to any power but 0
@@ -48,7 +44,7 @@ power-large a k i n some h e l =
     omega (arith, next-power a i n e, pow-le-pow-right some {i = i + 1} {j = k + 1} (omega arith))
 
 -- it is 0 exactly where there is no cube
-pub bounded-none : (a k : ℕ) → bounded a k ≡ 0 → noCube a k ≡ true
+pub bounded-none : (a k : ℕ) → boundedStations a k ≡ 0 → noCube a k ≡ true
 bounded-none a k e =
     ⊎-elim (λ large. or-right (eqb a 0) (ltb mostStations (cubeStations a k)) large)
     (λ (within : ltb mostStations (cubeStations a k) ≡ false).
@@ -57,11 +53,11 @@ bounded-none a k e =
     (eq-eqb a 0 (by-cases (ℕ-discrete a 0) (λ z. z) (λ (some : a ≡ 0 → ⊥). absurd (omega (arith, one-le-pow (k + 1) a (omega arith)))))))
     (known (ltb mostStations (cubeStations a k)))
 
-pub bounded-some : (a k : ℕ) → (bounded a k ≡ 0 → ⊥) → (noCube a k ≡ false) × (bounded a k ≡ cubeStations a k)
+pub bounded-some : (a k : ℕ) → (boundedStations a k ≡ 0 → ⊥) → (noCube a k ≡ false) × (boundedStations a k ≡ cubeStations a k)
 bounded-some a k some =
     ⊎-elim (λ large. absurd (some (rw large)))
     (λ (within : ltb mostStations (cubeStations a k) ≡ false).
-    let same : bounded a k ≡ cubeStations a k = rw within in
+    let same : boundedStations a k ≡ cubeStations a k = rw within in
     let not-zero : a ≡ 0 → ⊥ = λ z. some (same ∙ sym (small-power a k (omega arith)) ∙ z) in
     (rw (ne-eqb a 0 not-zero) within, same))
     (known (ltb mostStations (cubeStations a k)))

@@ -10,12 +10,8 @@ use lib.ListN.{length, set, length-map}
 use lib.Seq.{sets}
 use Rattle.lists.proofs.Joined.{map-append, sets-append}
 use Rattle.tables.specs.Choose.{choose}
-use Rattle.tables.specs.Uniform.{setsOf}
+use Rattle.tables.specs.Uniform.{setsOf, stored}
 use Rattle.tables.proofs.SetsOfSize.{sets-zero, sets-none, sets-split, sets-length}
-
--- out, with the sets of s of the stations below n stored from the place `at` on, each with the stations `above`
-abbrev pub stored : List ℕ → ℕ → ℕ → ℕ → ℕ → List ℕ
-stored out at above n s = sets out at (map (λ q. above + q) (setsOf n s))
 
 pub choose-last : (n s : ℕ) → 1 ≤ n → 1 ≤ s → choose n s ≡ choose (n - 1) s + choose (n - 1) (s - 1)
 unfolding choose

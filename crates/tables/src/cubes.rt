@@ -1,17 +1,15 @@
 // The table of a cube: stations that share a coordinate.
 ghost use mathlib.Core.Path.{_≡_};
-ghost use mathlib.Core.Bool.{cond};
 ghost use Prim.Native.Nat.{_+_, _≤_, _<_};
-ghost use lib.Dec.{ltb};
 ghost use lib.ListN.{length};
 ghost use lib.Seq.{sets};
 ghost use Rattle.quorum.specs.Limits.{mostStations, mostUnits};
-ghost use Rattle.tables.specs.Cube.{cubeStations, agree as agreeIn, cubeQuorum, cubeTable, cubeRefusal};
+ghost use Rattle.tables.specs.Cube.{cubeStations, boundedStations, agree as agreeIn, cubeQuorum, cubeTable, cubeRefusal};
 
 // The number of stations, a^(k + 1), where that is at most 12, else 0.
 pub(crate) fn stations_of(a: usize, k: usize) -> usize
     requires { ⌜ k ≤ mostUnits ⌝ }
-    ensures { λ r. ⌜ r ≡ cond (ltb mostStations (cubeStations a k)) 0 (cubeStations a k) ⌝ }
+    ensures { λ r. ⌜ r ≡ boundedStations a k ⌝ }
 {
     if a < 2 {
         return a;

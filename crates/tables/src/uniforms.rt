@@ -1,13 +1,11 @@
 // The table of all sets of one size.
 ghost use mathlib.Core.Path.{_≡_};
-ghost use mathlib.Core.List.{map};
 ghost use Prim.Native.Nat.{_+_, _^_, _≤_};
 ghost use lib.ListN.{length};
-ghost use lib.Seq.{sets};
 ghost use Rattle.stations.specs.Sets.{places};
 ghost use Rattle.quorum.specs.Limits.{mostStations, mostUnits};
 ghost use Rattle.tables.specs.Choose.{choose};
-ghost use Rattle.tables.specs.Uniform.{setsOf, uniformSize, uniformRefusal};
+ghost use Rattle.tables.specs.Uniform.{stored, uniformSize, uniformRefusal};
 
 // The number of stations in each set.
 pub(crate) fn size_of(n: usize, k: usize) -> usize
@@ -50,7 +48,7 @@ pub(crate) fn refusal(n: usize, k: usize, room: usize) -> u8
 pub(crate) fn write_sets(n: usize, size: usize, above: u16, at: usize, out: &mut [u16]) -> usize
     requires { ⌜ (n ≤ mostStations) × (above + 2 ^ n ≤ 2 ^ places) × (at + choose n size ≤ length (now out)) ⌝ }
     ensures placed { λ r. ⌜ r ≡ at + choose n size ⌝ }
-    ensures written { λ _. ⌜ now (out .exit) ≡ sets (now (out .entry)) at (map (λ q. above + q) (setsOf n size)) ⌝ }
+    ensures written { λ _. ⌜ now (out .exit) ≡ stored (now (out .entry)) at above n size ⌝ }
 {
     if size == 0 {
         out[at] = above;

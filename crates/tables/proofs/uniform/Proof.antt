@@ -6,10 +6,10 @@ use lib.ListN.{length}
 use lib.Pow.{pow-mono}
 use borrow.Author.Needs.{needs}
 use Rattle.tables.specs.Choose.{choose}
-use Rattle.tables.specs.Uniform.{uniformTable, uniformSize}
+use Rattle.tables.specs.Uniform.{stored, uniformTable, uniformSize}
 use Rattle.tables.proofs.Making.{on-refusal, on-table}
 use Rattle.tables.proofs.UniformArbiter.{uniform-kept, uniform-length}
-use Rattle.tables.proofs.WritingSets.{stored, stored-front}
+use Rattle.tables.proofs.WritingSets.{stored-front}
 use Rattle.tables.proofs.uniform.Statement.{statement}
 use Rattle.tables.proofs.uniform.Tie as tie
 
