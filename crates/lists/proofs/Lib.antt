@@ -4,3 +4,5 @@ pub mod Searches
 pub mod Cuts
 pub mod Joined
 pub mod Counting
+pub mod Changed
+pub mod Totals

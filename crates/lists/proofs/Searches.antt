@@ -9,7 +9,7 @@ use native.Mathlib.Numerals.{add-one}
 use native.Mathlib.Omega.{arith}
 use lib.ListN.{length, getD, drop, drop-of-length-le}
 use lib.Seq.{drop-cons}
-use Rattle.lists.specs.Search.{any, firstOf, everyBelow, someBelow}
+use Rattle.lists.specs.Search.{any, all, firstOf, everyBelow, someBelow}
 use Rattle.lists.proofs.Below.{below-suc}
 use Rattle.lists.proofs.Tests.{known, clash, not-true-false, and-left, and-right, and-both, or-none, or-left, or-right, or-cases}
 
@@ -40,6 +40,16 @@ module _ {A : Type 0} where
 
   pub any-end : (f : A → Bool) (xs : List A) (i : ℕ) → length xs ≤ i → any f (drop i xs) ≡ false
   any-end f xs i h = rw (drop-of-length-le xs h)
+
+  -- every element of two lists joined
+  pub all-append : (f : A → Bool) (xs ys : List A) → all f xs ≡ true → all f ys ≡ true → all f (xs ++ ys) ≡ true
+  all-append f [] ys p q = q
+  all-append f (x ∷ xs) ys p q =
+      and-both (and-left (f x) (all f xs) p) (all-append f xs ys (and-right (f x) (all f xs) p) q)
+
+  pub all-right : (f : A → Bool) (xs ys : List A) → all f (xs ++ ys) ≡ true → all f ys ≡ true
+  all-right f [] ys e = e
+  all-right f (x ∷ xs) ys e = all-right f xs ys (and-right (f x) (all f (xs ++ ys)) e)
 
   -- the first of two lists joined: of the left one where that has any
   pub first-append-some : (f : A → Bool) (d : A) (xs ys : List A) → any f xs ≡ true → firstOf f d (xs ++ ys) ≡ firstOf f d xs
@@ -82,6 +92,9 @@ some-at f zero i h t = absurd (omega arith)
 some-at f (suc n) i h t =
     below-suc {P = λ j. f j ≡ true → someBelow f (suc n) ≡ true} n
     (λ j p s. or-left (someBelow f n) (f n) (some-at f n j p s)) (λ s. or-right (someBelow f n) (f n) s) i h t
+
+pub some-never : (f : ℕ → Bool) (n : ℕ) → someBelow f n ≡ false → (i : ℕ) → i < n → f i ≡ false
+some-never f n e i h = not-true-false (f i) (λ t. clash (some-at f n i h t) e)
 
 pub some-found : (f : ℕ → Bool) (n : ℕ) → someBelow f n ≡ true → (i : ℕ) × (i < n) × (f i ≡ true)
 some-found f zero e = absurd (clash e refl)

@@ -1,6 +1,6 @@
 -- Boolean tests: true or false, and joined.
 -- Assumes nothing.
-use mathlib.Core.Bool.{Bool, true, false, _&&_, _||_, true≢false}
+use mathlib.Core.Bool.{Bool, true, false, cond, _&&_, _||_, true≢false}
 use mathlib.Core.Logic.{_⊎_, inl, inr}
 use mathlib.Core.Path.{_≡_, refl, sym, ap, _∙_}
 use Prim.Native.Nat.{ℕ, suc, compare·suc-suc}
@@ -51,6 +51,11 @@ or-none false b e = (refl, e)
 
 pub or-rest : (a b : Bool) → a ≡ false → (a || b) ≡ true → b ≡ true
 or-rest a b n e = rw n at e
+
+-- a refusal r or what follows it: 0 says that r was not given
+pub otherwise : (b : Bool) (r x : ℕ) → (r ≡ 0 → ⊥) → cond b r x ≡ 0 → (b ≡ false) × (x ≡ 0)
+otherwise true r x h e = absurd (h e)
+otherwise false r x h e = (refl, e)
 
 -- numbers are equal where their successors are
 pub eqb-suc : (a b : ℕ) → eqb (suc a) (suc b) ≡ eqb a b

@@ -1,4 +1,4 @@
--- The numbers below a bound: how many pass a test, which they are, and a list with a value for each.
+-- The numbers below a bound: how many pass a test, which they are, a value for each in a list, and the sum of the values.
 use mathlib.Core.Bool.{Bool, cond}
 use mathlib.Core.List.{List, [], _∷_, _++_}
 use Prim.Native.Nat.{ℕ, zero, suc, _+_}
@@ -17,3 +17,8 @@ numbersBelow f (suc n) = numbersBelow f n ++ cond (f n) (n ∷ []) []
 unfoldable pub each : (ℕ → ℕ) → ℕ → List ℕ
 each g zero = []
 each g (suc n) = each g n ++ (g n ∷ [])
+
+-- the sum of the values of g at 0, 1, .. n - 1
+unfoldable pub total : (ℕ → ℕ) → ℕ → ℕ
+total g zero = 0
+total g (suc n) = g n + total g n

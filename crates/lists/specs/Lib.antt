@@ -1,3 +1,4 @@
 pub mod Cut
 pub mod Search
 pub mod Counting
+pub mod At

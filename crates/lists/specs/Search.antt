@@ -9,6 +9,11 @@ module _ {A : Type 0} where
   any f [] = false
   any f (x ∷ xs) = f x || any f xs
 
+  -- whether f holds of every element
+  abbrev pub all : (A → Bool) → List A → Bool
+  all f [] = true
+  all f (x ∷ xs) = f x && all f xs
+
   -- the first element that f holds of, d if there is none
   abbrev pub firstOf : (A → Bool) → A → List A → A
   firstOf f d [] = d

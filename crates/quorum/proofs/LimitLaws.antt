@@ -1,6 +1,6 @@
 -- What the limits 1 to 4 say of a table, in numbers.
 -- Assumes nothing.
-use mathlib.Core.Bool.{Bool, true, false, cond, not}
+use mathlib.Core.Bool.{true, false, not}
 use mathlib.Core.List.{List, [], _∷_}
 use mathlib.Core.Logic.{by-cases}
 use mathlib.Core.Path.{_≡_, refl, sym, ap, _∙_}
@@ -13,7 +13,7 @@ use lib.ListN.{length}
 use lib.Pow.{pow-pos}
 use borrow.Author.Tests.{leb-true, leb-false, eqb-false, not-false, le-leb, lt-leb, ne-eqb}
 use Rattle.lists.specs.Search.{any}
-use Rattle.lists.proofs.Tests.{clash, and-left, and-right, and-both, or-none}
+use Rattle.lists.proofs.Tests.{otherwise, clash, and-left, and-right, and-both, or-none}
 use Rattle.stations.specs.Member.{member}
 use Rattle.stations.proofs.Members.{member-below, member-shift, some-member}
 use Rattle.quorum.specs.Family.{quorum}
@@ -51,11 +51,6 @@ in-place n (q ∷ table) e zero h =
     let (some, small) = or-none (eqb q 0) (leb (2 ^ n) q) this in
     (eqb-false q 0 some, leb-false (2 ^ n) q small)
 in-place n (q ∷ table) e (suc p) h = in-place n table (or-none (outOfPlace n q) (any (outOfPlace n) table) e .1) p (omega arith)
-
--- the branches of a test that ends in 0
-pub otherwise : (b : Bool) (r x : ℕ) → (r ≡ 0 → ⊥) → cond b r x ≡ 0 → (b ≡ false) × (x ≡ 0)
-otherwise true r x h e = absurd (h e)
-otherwise false r x h e = (refl, e)
 
 pub limits-kept : (n k : ℕ) (table : List ℕ) → brokenLimit n k table ≡ 0 → Limits n k table
 unfolding brokenLimit

@@ -14,7 +14,7 @@ use lib.ListN.{length, getD}
 use borrow.Author.Tests.{eq-eqb, eqb-true, eqb-false, ne-eqb, ltb-false}
 use Rattle.lists.proofs.Counting.{each-length, each-at}
 use Rattle.lists.proofs.Searches.{some-at, some-found}
-use Rattle.lists.proofs.Tests.{clash, or-none}
+use Rattle.lists.proofs.Tests.{otherwise, clash, or-none}
 use Rattle.stations.specs.Member.{member}
 use Rattle.stations.proofs.Built.{member-set, set-below}
 use Rattle.stations.proofs.Members.{member-zero}
@@ -23,11 +23,11 @@ use Rattle.quorum.specs.Arbiter.{Common, Within}
 use Rattle.quorum.specs.Family.{quorum, Numbers}
 use Rattle.quorum.specs.Limits.{mostStations, mostUnits, upTo}
 use Rattle.quorum.proofs.Accepts.{arbiter-accepted}
-use Rattle.quorum.proofs.LimitLaws.{Limits, kept-limits, up-to, otherwise}
 use Rattle.quorum.proofs.CommonParts.{in-every, number-at}
+use Rattle.quorum.proofs.LimitLaws.{Limits, kept-limits, up-to}
 use Rattle.tables.specs.Cube.{cubeStations, stationAt, coordinate, agree, cubeQuorum, cubeTable, noCube, cubeRefusal}
-use Rattle.tables.proofs.Making.{room-kept}
 use Rattle.tables.proofs.Coordinates.{coordinate-lt, station-below, station-has, station-ext}
+use Rattle.tables.proofs.Making.{room-kept}
 
 -- ---- a coordinate that is x where x and y differ, and never y
 

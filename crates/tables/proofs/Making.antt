@@ -9,8 +9,8 @@ use lib.ListN.{length}
 use lib.Seq.{sets}
 use borrow.Author.Tests.{lt-ltb, le-ltb, ltb-false, ne-eqb}
 use Rattle.lists.proofs.Joined.{sets-front}
+use Rattle.lists.proofs.Tests.{otherwise}
 use Rattle.quorum.specs.Limits.{mostQuorums}
-use Rattle.quorum.proofs.LimitLaws.{otherwise}
 use Rattle.tables.specs.Made.{noRoom, answer, written, said}
 
 -- ---- length and room

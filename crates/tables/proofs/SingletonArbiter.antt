@@ -8,13 +8,14 @@ use native.Mathlib.Omega.{arith}
 use lib.Dec.{leb}
 use lib.Pow.{pow-pos, pow-lt}
 use borrow.Author.Tests.{leb-false}
+use Rattle.lists.proofs.Tests.{otherwise}
 use Rattle.stations.proofs.Built.{member-only}
 use Rattle.quorum.specs.Accepted.{Accepted}
 use Rattle.quorum.specs.Arbiter.{InAll}
 use Rattle.quorum.specs.Family.{quorum, Numbers}
 use Rattle.quorum.specs.Limits.{mostStations, mostUnits, upTo}
 use Rattle.quorum.proofs.Accepts.{arbiter-accepted}
-use Rattle.quorum.proofs.LimitLaws.{Limits, kept-limits, up-to, otherwise}
+use Rattle.quorum.proofs.LimitLaws.{Limits, kept-limits, up-to}
 use Rattle.tables.specs.Singleton.{singletonTable, singletonRefusal}
 use Rattle.tables.proofs.Making.{room-kept}
 

@@ -11,6 +11,7 @@ use native.Mathlib.Nat.{div-add-mod', mod-lt, div-lt-iff-lt-mul}
 use native.Mathlib.Omega.{arith}
 use lib.Bits.{bitAnd}
 use lib.ListN.{length}
+use Rattle.lists.proofs.Tests.{otherwise}
 use Rattle.stations.specs.Sets.{everyone, countBelow}
 use Rattle.stations.proofs.Counts.{count-and, count-everyone, count-none, count-fewer, count-le}
 use Rattle.stations.proofs.Members.{within-and}
@@ -20,11 +21,11 @@ use Rattle.quorum.specs.Family.{quorum, commonWithin, commonPart, Numbers}
 use Rattle.quorum.specs.Limits.{mostStations, mostUnits, mostQuorums, upTo}
 use Rattle.quorum.proofs.Accepts.{arbiter-accepted}
 use Rattle.quorum.proofs.CommonMember.{common-or-empty}
-use Rattle.quorum.proofs.LimitLaws.{Limits, kept-limits, up-to, otherwise}
+use Rattle.quorum.proofs.LimitLaws.{Limits, kept-limits, up-to}
 use Rattle.tables.specs.Choose.{choose}
 use Rattle.tables.specs.Uniform.{setsOf, uniformSize, uniformTable, uniformRefusal}
-use Rattle.tables.proofs.Making.{room-kept}
 use Rattle.tables.proofs.Choosing.{choose-some}
+use Rattle.tables.proofs.Making.{room-kept}
 use Rattle.tables.proofs.SetsOfSize.{sets-length, sets-hold, sets-rise}
 
 -- ---- the size

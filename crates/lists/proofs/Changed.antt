@@ -1,0 +1,26 @@
+-- A function changed at one place: what it is there, and that it is as before elsewhere.
+-- Assumes nothing.
+use mathlib.Core.Logic.{by-cases}
+use mathlib.Core.Path.{_≡_, refl}
+use Prim.Native.Nat.{ℕ}
+use native.Mathlib.Decide.{ℕ-discrete}
+use borrow.Author.Tests.{eq-eqb, ne-eqb}
+use Rattle.lists.specs.At.{at, at2}
+
+module _ {A : Type 0} where
+  pub at-same : (f : ℕ → A) (a : ℕ) (x : A) → at f a x a ≡ x
+  unfolding at
+  at-same f a x = rw (eq-eqb a a refl)
+
+  pub at-other : (f : ℕ → A) (a : ℕ) (x : A) (i : ℕ) → (i ≡ a → ⊥) → at f a x i ≡ f i
+  unfolding at
+  at-other f a x i d = rw (ne-eqb i a d)
+
+  -- what holds of x, and of f at i
+  pub at-all : (P : A → Type 0) (f : ℕ → A) (a : ℕ) (x : A) → P x → (i : ℕ) → P (f i) → P (at f a x i)
+  at-all P f a x p i q =
+      by-cases (ℕ-discrete i a) (λ (e : i ≡ a). rw (e, at-same f a x) p) (λ (d : i ≡ a → ⊥). rw (at-other f a x i d) q)
+
+-- the same of a pair: what holds of x, of f in its row and of f at i, j
+pub at2-all : {A : Type 0} (P : A → Type 0) (f : ℕ → ℕ → A) (a b : ℕ) (x : A) → P x → (i j : ℕ) → P (f a j) → P (f i j) → P (at2 f a b x i j)
+at2-all P f a b x p i j row q = at-all (λ r. P (r j)) f a (at (f a) b x) (at-all P (f a) b x p j row) i q

@@ -1,0 +1,59 @@
+-- The members of a quorum, approached from the lowest up.
+-- Assumes nothing.
+use mathlib.Core.Bool.{true, false}
+use mathlib.Core.List.{List}
+use mathlib.Core.Logic.{by-cases}
+use mathlib.Core.Path.{_≡_}
+use Prim.Native.Nat.{ℕ, _≤_, _<_, _^_}
+use native.Mathlib.Decide.{decLt}
+use native.Mathlib.Omega.{arith}
+use lib.ListN.{length}
+use Rattle.lists.proofs.Tests.{clash}
+use Rattle.stations.specs.Member.{member}
+use Rattle.stations.specs.Sets.{places, lowestFrom}
+use Rattle.stations.proofs.Lowest.{lowest-from}
+use Rattle.stations.proofs.Members.{member-below, member-station, some-member}
+use Rattle.quorum.specs.Family.{quorum}
+use Rattle.quorum.specs.Limits.{brokenLimit}
+use Rattle.quorum.proofs.LimitLaws.{Limits, limits-kept}
+
+-- m is the lowest member from i on of a quorum of n stations
+pub record Lowest-member (n q i m : ℕ) : Type 0 where
+  pub station : m < n
+  pub from : i ≤ m
+  pub belongs : member q m ≡ true
+  pub before : (j : ℕ) → i ≤ j → j < m → member q j ≡ false
+
+module _ (n k : ℕ) (table : List ℕ) (kept : brokenLimit n k table ≡ 0) (p : ℕ) (exists : p < length table) where
+  limits : Limits n k table
+  limits = limits-kept n k table kept
+
+  small : quorum table p < 2 ^ n
+  small = limits .members p exists .1
+
+  -- there is a member from i on, or none
+  pub next-member : (i : ℕ) → lowestFrom (quorum table p) i < places → Lowest-member n (quorum table p) i (lowestFrom (quorum table p) i)
+  next-member i h =
+      let l = lowest-from (quorum table p) i in
+      let (from, belongs) = l .found h in
+      record {
+        station = member-station n (quorum table p) (lowestFrom (quorum table p) i) small belongs;
+        from = from;
+        belongs = belongs;
+        before = l .before;
+      }
+
+  pub no-member : (i : ℕ) → (lowestFrom (quorum table p) i < places → ⊥) → (j : ℕ) → i ≤ j → member (quorum table p) j ≡ false
+  no-member i h j from =
+      let l = lowest-from (quorum table p) i in
+      by-cases (decLt j places) (λ (b : j < places). l .before j from (omega arith))
+      (λ (b : ¬ (j < places)). member-below n (quorum table p) j small (omega (arith, limits .stations .1)))
+
+  -- no quorum is empty, so there is a lowest member of all
+  pub first-member : Lowest-member n (quorum table p) 0 (lowestFrom (quorum table p) 0)
+  first-member =
+      next-member 0
+      (by-cases (decLt (lowestFrom (quorum table p) 0) places) (λ h. h)
+      (λ (none : ¬ (lowestFrom (quorum table p) 0 < places)).
+      let (i, m) = some-member (quorum table p) (limits .members p exists .0) in
+      absurd (clash m (no-member 0 none i (omega arith)))))

@@ -1,0 +1,104 @@
+-- Units entered less units left are the units of the stations that hold.
+-- Assumes nothing.
+use mathlib.Core.Bool.{Bool, true, false, cond}
+use mathlib.Core.List.{List, [], _∷_}
+use mathlib.Core.Logic.{by-cases}
+use mathlib.Core.Path.{_≡_, refl}
+use Prim.Native.Nat.{ℕ, suc, _+_, _<_}
+use native.Mathlib.Decide.{ℕ-discrete}
+use native.Mathlib.Omega.{arith}
+use lib.Dec.{eqb, ltb}
+use Rattle.lists.specs.At.{at}
+use Rattle.lists.specs.Counting.{total}
+use Rattle.lists.proofs.Changed.{at-same, at-other}
+use Rattle.lists.proofs.Totals.{total-same, total-at, total-none}
+use Rattle.stations.specs.Sets.{places, lowestFrom}
+use Rattle.quorum.specs.Family.{quorum}
+use Rattle.plain.specs.Answer.{Answer}
+use Rattle.plain.specs.Down.{Taken, onward, taken, takenAt, enters, phaseThen, downRefusal, receivedAs, received, down}
+use Rattle.plain.specs.Release.{releaseRefusal, released, held, release}
+use Rattle.plain.specs.Request.{lowest, requestRefusal, requested, request}
+use Rattle.plain.specs.Run.{Call, call, run, after, entered, left, Difference}
+use Rattle.plain.specs.State.{State, fresh}
+use Rattle.plain.specs.Up.{upRefusal, delivered, up}
+use Rattle.plain.specs.declared.Phase.{Phase}
+use Rattle.plain.specs.declared.Phase.the-variants.{Idle, Collecting, Holding}
+use Rattle.plain.proofs.Passed.{answered-as, requestable, delivers, releases}
+
+-- the units of those of n stations that hold
+abbrev pub heldBy : (ℕ → Phase) → ℕ → ℕ
+heldBy phase n = total (λ s. held (phase s)) n
+
+-- one station changes its phase
+held-at : (phase : ℕ → Phase) (s n : ℕ) (p : Phase) → s < n → heldBy (at phase s p) n + held (phase s) ≡ heldBy phase n + held p
+held-at phase s n p l =
+    let same = total-same (λ t. held (at phase s p t)) (at (λ t. held (phase t)) s (held p)) n (λ t b. one t) in
+    let sum = total-at (λ t. held (phase t)) s (held p) n l in
+    omega arith
+  where
+    one : (t : ℕ) → held (at phase s p t) ≡ at (λ x. held (phase x)) s (held p) t
+    one t =
+        by-cases (ℕ-discrete t s)
+        (λ (e : t ≡ s). rw (e, at-same phase s p, at-same (λ x. held (phase x)) s (held p)))
+        (λ (d : t ≡ s → ⊥). rw (at-other phase s p t d, at-other (λ x. held (phase x)) s (held p) t d))
+
+-- what an answer enters and leaves is what the stations hold more or less than before
+abbrev Balanced : State → Answer → Type 0
+Balanced st a = a .entered + heldBy (st .phase) (st .n) ≡ a .left + heldBy (a .state .phase) (a .state .n)
+
+-- a GRANT: only the station that holds now has entered its units
+grant-balance : (st : State) (s j : ℕ) → s < st .n → heldBy (phaseThen st s (takenAt st s j)) (st .n) ≡ enters (takenAt st s j) + heldBy (st .phase) (st .n)
+unfolding taken onward
+grant-balance st s j l = go (st .phase s) refl
+  where
+    go : (p : Phase) → st .phase s ≡ p → heldBy (phaseThen st s (taken (st .table) j p)) (st .n) ≡ enters (taken (st .table) j p) + heldBy (st .phase) (st .n)
+    go Idle e = omega arith
+    go (Holding q h) e = omega arith
+    go (Collecting q h m) e = asked (eqb m j) (ltb (lowestFrom (quorum (st .table) q) (suc j)) places) (lowestFrom (quorum (st .table) q) (suc j))
+      where
+        none : held (st .phase s) ≡ 0
+        none = rw e
+
+        asked : (a b : Bool) (x : ℕ)
+            → heldBy (phaseThen st s (cond a (cond b (Taken.asks q h x) (Taken.holds q h)) Taken.drops)) (st .n)
+            ≡ enters (cond a (cond b (Taken.asks q h x) (Taken.holds q h)) Taken.drops) + heldBy (st .phase) (st .n)
+        asked true true x = omega (arith, none, held-at (st .phase) s (st .n) (Collecting q h x) l)
+        asked true false x = omega (arith, none, held-at (st .phase) s (st .n) (Holding q h) l)
+        asked false b x = omega arith
+
+pub call-balance : (st : State) (c : Call) → call st c .entered + heldBy (st .phase) (st .n) ≡ call st c .left + heldBy (call st c .state .phase) (call st c .state .n)
+unfolding call request requested up delivered down received receivedAs release released
+call-balance st (Call.Request s q h) =
+    answered-as (Balanced st) st (requestRefusal st s q h) 0 0 (requested st s q h)
+    (λ z. let r = requestable st s q h z in
+    let none : held (st .phase s) ≡ 0 = rw (r .idle) in
+    omega (arith, none, held-at (st .phase) s (st .n) (Collecting q h (lowest st q)) (r .station)))
+    refl
+call-balance st (Call.Up s j) =
+    answered-as (Balanced st) st (upRefusal st s j) 0 0 (delivered st s j (st .up s j))
+    (λ z. rw (delivers st s j _ _ z .taken) refl)
+    refl
+call-balance st (Call.Down s j) =
+    answered-as (Balanced st) st (downRefusal st s j) (enters (takenAt st s j)) 0 (received st s j (st .down s j))
+    (λ z. let d = delivers st s j _ _ z in rw (d .taken) (omega (arith, grant-balance st s j (d .station))))
+    refl
+call-balance st (Call.Release s) =
+    answered-as (Balanced st) st (releaseRefusal st s) 0 (held (st .phase s)) (released st s (st .phase s))
+    (λ z. let r = releases st s z in
+    let sum = held-at (st .phase) s (st .n) Idle (r .station) in
+    let mine : held (st .phase s) ≡ r .units = rw (r .holding) in
+    rw (r .holding) (omega arith))
+    refl
+
+pub calls-balance : (st : State) (calls : List Call)
+    → entered (run st calls) + heldBy (st .phase) (st .n) ≡ left (run st calls) + heldBy (after st calls .phase) (after st calls .n)
+unfolding run after entered left
+calls-balance st [] = refl
+calls-balance st (c ∷ calls) = omega (arith, call-balance st c, calls-balance (call st c .state) calls)
+
+-- from a fresh state, for every list of calls: "the sum of the units entered in all answers less the sum of the units left in all answers"
+-- is the sum of the units of the stations that hold
+pub difference-held : (n k : ℕ) (table : List ℕ) (calls : List Call)
+    → Difference (run (fresh n k table) calls) (heldBy (after (fresh n k table) calls .phase) (after (fresh n k table) calls .n))
+unfolding fresh
+difference-held n k table calls = omega (arith, calls-balance (fresh n k table) calls, total-none (λ s. 0) n (λ s l. refl))

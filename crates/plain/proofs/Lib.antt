@@ -1,0 +1,16 @@
+pub mod Marked
+pub mod Pairs
+pub mod Range
+pub mod Passed
+pub mod Releasing
+pub mod Approaching
+pub mod Arriving
+pub mod Wants
+pub mod Invariant
+pub mod Held
+pub mod LanesInRange
+pub mod ArbitersInRange
+pub mod StaysInRange
+pub mod SameTable
+pub mod Bound
+pub mod Serving

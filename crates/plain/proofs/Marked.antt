@@ -1,0 +1,99 @@
+-- The marked tables and runs P1 to P12 of document 01, of the definitions, as one list.
+-- Assumes nothing.
+use mathlib.Core.List.{List, [], _∷_, _++_, map}
+use mathlib.Core.Path.{_≡_, refl}
+use Prim.Native.Nat.{ℕ}
+use Rattle.lists.specs.At.{at}
+use Rattle.lists.specs.Counting.{total}
+use Rattle.stations.specs.Member.{member}
+use Rattle.stations.specs.Sets.{contains, setOf, lowestAmong, lowestFrom}
+use Rattle.quorum.specs.Answer.{answer, answerTo}
+use Rattle.quorum.specs.Even.{belongs, even}
+use Rattle.quorum.specs.Family.{commonWithin, families}
+use Rattle.quorum.specs.FirstFamily.{firstFamily}
+use Rattle.quorum.specs.Limits.{brokenLimit}
+use Rattle.quorum.specs.Nested.{nested}
+use Rattle.quorum.specs.Refusal.{refusal}
+use Rattle.quorum.specs.Scratch.{scratchBytes}
+use Rattle.quorum.specs.Width.{emptied, leastSize, width, lacksCommon}
+use Rattle.tables.specs.Cube.{coordinate, agree, cubeQuorum}
+use Rattle.plain.specs.Answer.{Answer, answered}
+use Rattle.plain.specs.Arbiter.{arrived, fits, serve, unitsIn}
+use Rattle.plain.specs.Delivery.{laneRefusal, deliveryRefusal}
+use Rattle.plain.specs.Down.{onward, taken, receivedAs, received, down}
+use Rattle.plain.specs.InRange.{goesUp, goesDown, upLane, downLane, phaseIn, entryIn, arbiterIn, inRange}
+use Rattle.plain.specs.Release.{releasing, releaseRefusal, released, release}
+use Rattle.plain.specs.Request.{requestRefusal, requested, request}
+use Rattle.plain.specs.Run.{Call, call, run}
+use Rattle.plain.specs.State.{fresh}
+use Rattle.plain.specs.Up.{granting, delivered, up}
+
+-- what a call answers, but for the state
+pub data Call-says : Type 0 where
+  one : (refusal entered left : ℕ) → Call-says
+
+-- what a marked case says: the check's answer on a table, a quorum, or the answers of a run
+pub data Says : Type 0 where
+  table : (refusal width even : ℕ) (family : List ℕ) → Says
+  quorum : ℕ → Says
+  calls : List Call-says → Says
+
+-- the check's answer, with scratch enough
+abbrev check : ℕ → ℕ → List ℕ → Says
+check n k t = says (answer n k t scratchBytes)
+  where
+    says : Rattle.quorum.specs.Answer.Answer → Says
+    says a = Says.table (a .refusal) (a .width) (a .even) (a .family)
+
+abbrev said : Answer → Call-says
+said a = Call-says.one (a .refusal) (a .entered) (a .left)
+
+-- the answers to a list of calls from the fresh state
+abbrev from-fresh : ℕ → ℕ → List ℕ → List Call → Says
+from-fresh n k t list = Says.calls (map said (run (fresh n k t) list))
+
+abbrev three : List ℕ
+three = 3 ∷ 5 ∷ 6 ∷ []
+
+abbrev four : List ℕ
+four = 7 ∷ 11 ∷ 13 ∷ 14 ∷ []
+
+abbrev enters : List Call
+enters = Call.Request 0 0 1 ∷ Call.Up 0 0 ∷ Call.Down 0 0 ∷ Call.Up 0 1 ∷ Call.Down 0 1 ∷ []
+
+abbrev waits : List Call
+waits = Call.Request 1 2 1 ∷ Call.Up 1 1 ∷ Call.Down 1 1 ∷ []
+
+abbrev done : Call-says
+done = Call-says.one 0 0 0
+
+pub marked :
+    _≡_ {A = List Says}
+    (check 1 1 (1 ∷ [])
+    ∷ check 3 1 three
+    ∷ check 3 2 three
+    ∷ check 2 5 (1 ∷ 2 ∷ [])
+    ∷ check 4 2 four
+    ∷ check 4 3 four
+    ∷ check 4 2 (3 ∷ 12 ∷ 5 ∷ 10 ∷ [])
+    ∷ check 2 1 (1 ∷ 3 ∷ [])
+    ∷ check 2 1 (1 ∷ 2 ∷ 3 ∷ [])
+    ∷ Says.quorum (cubeQuorum 3 1 0)
+    ∷ from-fresh 3 1 three enters
+    ∷ from-fresh 3 1 three (enters ++ waits)
+    ∷ [])
+    (Says.table 0 0 1 []
+    ∷ Says.table 0 3 1 []
+    ∷ Says.table 6 3 0 (0 ∷ 1 ∷ 2 ∷ [])
+    ∷ Says.table 6 2 0 (0 ∷ 1 ∷ [])
+    ∷ Says.table 0 4 1 []
+    ∷ Says.table 6 4 0 (0 ∷ 1 ∷ 2 ∷ 3 ∷ [])
+    ∷ Says.table 6 2 0 (0 ∷ 1 ∷ [])
+    ∷ Says.table 7 0 0 []
+    ∷ Says.table 6 2 0 (0 ∷ 1 ∷ [])
+    ∷ Says.quorum 79
+    ∷ Says.calls (done ∷ done ∷ done ∷ done ∷ Call-says.one 0 1 0 ∷ [])
+    ∷ Says.calls (done ∷ done ∷ done ∷ done ∷ Call-says.one 0 1 0 ∷ done ∷ done ∷ Call-says.one 13 0 0 ∷ [])
+    ∷ [])
+unfolding answer answerTo refusal nested even belongs width emptied leastSize firstFamily lacksCommon commonWithin families brokenLimit member contains cubeQuorum setOf agree coordinate lowestAmong lowestFrom at total fresh answered arrived fits serve unitsIn onward taken receivedAs received down goesUp goesDown upLane downLane phaseIn entryIn arbiterIn inRange releasing releaseRefusal released release requestRefusal requested request call run granting laneRefusal deliveryRefusal delivered up
+marked = refl

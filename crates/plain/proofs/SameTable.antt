@@ -1,0 +1,58 @@
+-- No call changes the number of stations, the stock or the table.
+-- Assumes nothing.
+use mathlib.Core.List.{List, [], _∷_}
+use mathlib.Core.Path.{_≡_, refl, _∙_}
+use Prim.Native.Nat.{ℕ}
+use Rattle.plain.specs.Down.{takenAt, enters, downRefusal, receivedAs, received, down}
+use Rattle.plain.specs.Release.{releaseRefusal, released, held, release}
+use Rattle.plain.specs.Request.{requestRefusal, requested, request}
+use Rattle.plain.specs.Run.{Call, call, after}
+use Rattle.plain.specs.State.{State}
+use Rattle.plain.specs.Up.{upRefusal, delivered, up}
+use Rattle.plain.specs.declared.Message.{Message}
+use Rattle.plain.specs.declared.Phase.{Phase}
+use Rattle.plain.specs.declared.Phase.the-variants.{Idle, Collecting, Holding}
+use Rattle.plain.proofs.Passed.{answered-as}
+
+pub record Same-table (st next : State) : Type 0 where
+  pub n : next .n ≡ st .n
+  pub stock : next .stock ≡ st .stock
+  pub table : next .table ≡ st .table
+
+same : (st : State) → Same-table st st
+same st = record { n = refl; stock = refl; table = refl }
+
+delivered-same : (st : State) (s j : ℕ) (lane : List Message) → Same-table st (delivered st s j lane)
+unfolding delivered
+delivered-same st s j [] = same st
+delivered-same st s j (m ∷ rest) = record { n = refl; stock = refl; table = refl }
+
+received-same : (st : State) (s j : ℕ) (lane : List Message) → Same-table st (received st s j lane)
+unfolding received receivedAs
+received-same st s j [] = same st
+received-same st s j (m ∷ rest) = record { n = refl; stock = refl; table = refl }
+
+released-same : (st : State) (s : ℕ) (p : Phase) → Same-table st (released st s p)
+unfolding released
+released-same st s Idle = same st
+released-same st s (Collecting q h m) = same st
+released-same st s (Holding q h) = record { n = refl; stock = refl; table = refl }
+
+pub call-same : (st : State) (c : Call) → Same-table st (call st c .state)
+unfolding call request requested up down release
+call-same st (Call.Request s q h) =
+    answered-as (λ a. Same-table st (a .state)) st (requestRefusal st s q h) 0 0 (requested st s q h) (λ z. record { n = refl; stock = refl; table = refl }) (same st)
+call-same st (Call.Up s j) =
+    answered-as (λ a. Same-table st (a .state)) st (upRefusal st s j) 0 0 (delivered st s j (st .up s j)) (λ z. delivered-same st s j (st .up s j)) (same st)
+call-same st (Call.Down s j) =
+    answered-as (λ a. Same-table st (a .state)) st (downRefusal st s j) (enters (takenAt st s j)) 0 (received st s j (st .down s j)) (λ z. received-same st s j (st .down s j)) (same st)
+call-same st (Call.Release s) =
+    answered-as (λ a. Same-table st (a .state)) st (releaseRefusal st s) 0 (held (st .phase s)) (released st s (st .phase s)) (λ z. released-same st s (st .phase s)) (same st)
+
+pub calls-same : (st : State) (calls : List Call) → Same-table st (after st calls)
+unfolding after
+calls-same st [] = same st
+calls-same st (c ∷ calls) =
+    let one = call-same st c in
+    let rest = calls-same (call st c .state) calls in
+    record { n = rest .n ∙ one .n; stock = rest .stock ∙ one .stock; table = rest .table ∙ one .table }

@@ -1,0 +1,242 @@
+-- A fresh state is in range, and a call keeps a state in range.
+-- Assumes nothing.
+use mathlib.Core.Bool.{Bool, true, false, cond, _&&_}
+use mathlib.Core.List.{List, [], _∷_}
+use mathlib.Core.Logic.{by-cases, ⊎-elim}
+use mathlib.Core.Path.{_≡_, refl}
+use Prim.Native.Nat.{ℕ, suc, _<_}
+use native.Mathlib.Decide.{ℕ-discrete, decLt}
+use native.Mathlib.Omega.{arith}
+use lib.Dec.{eqb, leb, ltb}
+use lib.ListN.{length}
+use borrow.Author.Tests.{eq-eqb, ne-eqb, le-leb, lt-ltb, le-ltb, ltb-true}
+use Rattle.lists.specs.At.{at, at2}
+use Rattle.lists.specs.Search.{someBelow}
+use Rattle.lists.proofs.Changed.{at-all, at2-all}
+use Rattle.lists.proofs.Searches.{every-true, some-never}
+use Rattle.lists.proofs.Tests.{known, and-left, and-right, and-both, or-none}
+use Rattle.stations.specs.Member.{member}
+use Rattle.stations.specs.Sets.{places, lowestFrom}
+use Rattle.quorum.specs.Family.{quorum}
+use Rattle.quorum.specs.Limits.{brokenLimit, upTo}
+use Rattle.plain.specs.Arbiter.{unitsIn}
+use Rattle.plain.specs.Down.{Taken, onward, taken, takenAt, enters, downPasses, downRefusal, receivedAs, received, down}
+use Rattle.plain.specs.InRange.{goesUp, upLane, downLane, phaseIn, arbiterIn, inRange}
+use Rattle.plain.specs.Lanes.{downPlaces, linePlaces, passes, sent}
+use Rattle.plain.specs.Release.{releasing, releasePasses, releaseRefusal, released, held, release}
+use Rattle.plain.specs.Request.{lowest, requestRefusal, requested, request}
+use Rattle.plain.specs.Run.{Call, call, after}
+use Rattle.plain.specs.State.{State, fresh}
+use Rattle.plain.specs.Up.{arrivedAt, servedAt, granting, upPasses, upRefusal, delivered, up}
+use Rattle.plain.specs.declared.Message.the-variants.{Request, Release}
+use Rattle.plain.specs.declared.Phase.{Phase}
+use Rattle.plain.specs.declared.Phase.the-variants.{Idle, Collecting, Holding}
+use Rattle.plain.proofs.Approaching.{first-member, next-member}
+use Rattle.plain.proofs.ArbitersInRange.{arbiter-facts, facts-arbiter, arrived-in, served-in}
+use Rattle.plain.proofs.LanesInRange.{up-sent, up-taken, up-oldest, down-granted, down-taken}
+use Rattle.plain.proofs.Passed.{answered-as, Requestable, requestable, Delivers, delivers, Releases, releases}
+use Rattle.plain.proofs.Range.{Ranged, ranged, in-range}
+use Rattle.plain.proofs.Releasing.{releasing-member, releasing-other}
+
+fresh-ranged : (n k : ℕ) (table : List ℕ) → brokenLimit n k table ≡ 0 → Ranged (fresh n k table)
+unfolding fresh phaseIn arbiterIn upLane downLane
+fresh-ranged n k table kept =
+    record {
+      limits = kept;
+      phases = λ s l. refl;
+      arbiters = λ j l. and-both (every-true (λ s. leb 0 k) n (λ s b. le-leb 0 k (omega arith))) refl;
+      ups = λ s l j b. refl;
+      downs = λ s l j b. refl;
+    }
+
+-- ---- Request
+
+request-ranged : (st : State) (s q h : ℕ) → Requestable st s q h → Ranged (requested st s q h)
+unfolding requested phaseIn goesUp
+request-ranged st s q h r =
+    let g = ranged st (r .range) in
+    let low = first-member (st .n) (st .stock) (st .table) (g .limits) q (r .quorum) in
+    record {
+      limits = g .limits;
+      phases = λ t l. at-all (λ p. phaseIn (st .n) (st .stock) (st .table) p ≡ true) (st .phase) s (Collecting q h (lowest st q))
+          (and-both (lt-ltb q (length (st .table)) (r .quorum)) (and-both (r .units) (lt-ltb (lowest st q) (st .n) (low .station)))) t (g .phases t l);
+      arbiters = g .arbiters;
+      ups = λ t l j b. at2-all (λ lane. upLane (st .stock) lane ≡ true) (st .up) s (lowest st q) _
+          (up-sent (st .stock) (st .up s (lowest st q)) (Request h) (g .ups s (r .station) (lowest st q) (low .station)) (r .units) (r .room))
+          t j (g .ups s (r .station) j b) (g .ups t l j b);
+      downs = g .downs;
+    }
+
+-- ---- Up
+
+module _ (st : State) (s j : ℕ) (d : Delivers st s j (st .up s j) (upPasses st s j)) where
+  g : Ranged st
+  g = ranged st (d .range)
+
+  lane : upLane (st .stock) (d .message ∷ d .rest) ≡ true
+  lane = rw (d .taken) at (g .ups s (d .station) j (d .arbiter))
+
+  room : (passes linePlaces (arrivedAt st s j (d .message) .line) ≡ false)
+      × (someBelow (λ t. passes downPlaces (granting st j (servedAt st s j (d .message) .grants) t j)) (st .n) ≡ false)
+  room = or-none _ _ (d .room)
+
+  arbiter-in : arbiterIn (st .n) (st .stock) (servedAt st s j (d .message) .arbiter) ≡ true
+  arbiter-in =
+      facts-arbiter (st .n) (st .stock) (servedAt st s j (d .message) .arbiter)
+      (served-in (st .n) (st .stock) (arrivedAt st s j (d .message))
+      (arrived-in (st .n) (st .stock) (d .message) s (st .arbiter j) (d .station) (up-oldest (st .stock) (d .rest) (d .message) lane) (room .0)
+      (arbiter-facts (st .n) (st .stock) (st .arbiter j) (g .arbiters j (d .arbiter)))))
+
+  granting-in : (t : ℕ) → t < st .n → (x : ℕ) → x < st .n → downLane (granting st j (servedAt st s j (d .message) .grants) t x) ≡ true
+  unfolding granting
+  granting-in t l x b =
+      by-cases (ℕ-discrete x j)
+      (λ (e : x ≡ j). rw (e, eq-eqb j j refl) (down-granted (st .down t j) (unitsIn t (servedAt st s j (d .message) .grants)) (g .downs t l j (d .arbiter)) (rw (eq-eqb j j refl) at (some-never _ (st .n) (room .1) t l))))
+      (λ (o : x ≡ j → ⊥). rw (ne-eqb x j o) (g .downs t l x b))
+
+  up-ranged : Ranged (delivered st s j (st .up s j))
+  unfolding delivered
+  up-ranged = rw (d .taken) (
+      record {
+        limits = g .limits;
+        phases = g .phases;
+        arbiters = λ x b. at-all (λ a. arbiterIn (st .n) (st .stock) a ≡ true) (st .arbiter) j (servedAt st s j (d .message) .arbiter) arbiter-in x (g .arbiters x b);
+        ups = λ t l x b. at2-all (λ z. upLane (st .stock) z ≡ true) (st .up) s j (d .rest) (up-taken (st .stock) (d .rest) (d .message) lane) t x (g .ups s (d .station) x b) (g .ups t l x b);
+        downs = granting-in;
+      })
+
+-- ---- Down
+
+-- what a station makes of a GRANT is in range
+takenIn : ℕ → ℕ → List ℕ → Taken → Bool
+takenIn n k table (Taken.asks q h m) = phaseIn n k table (Collecting q h m)
+takenIn n k table (Taken.holds q h) = phaseIn n k table (Holding q h)
+takenIn n k table Taken.drops = true
+
+onward-in : (n k : ℕ) (table : List ℕ) → brokenLimit n k table ≡ 0 → (q h j : ℕ) → ltb q (length table) ≡ true → upTo k h ≡ true → takenIn n k table (onward table q h j) ≡ true
+unfolding takenIn onward phaseIn
+onward-in n k table kept q h j exists units =
+    by-cases (decLt (lowestFrom (quorum table q) (suc j)) places)
+    (λ (l : lowestFrom (quorum table q) (suc j) < places).
+    let next = next-member n k table kept q (ltb-true q (length table) exists) (suc j) l in
+    rw (lt-ltb (lowestFrom (quorum table q) (suc j)) places l) (and-both exists (and-both units (lt-ltb (lowestFrom (quorum table q) (suc j)) n (next .station)))))
+    (λ (l : ¬ (lowestFrom (quorum table q) (suc j) < places)). rw (le-ltb (lowestFrom (quorum table q) (suc j)) places (omega arith)) (and-both exists units))
+
+taken-in : (n k : ℕ) (table : List ℕ) → brokenLimit n k table ≡ 0 → (j : ℕ) (p : Phase) → phaseIn n k table p ≡ true → takenIn n k table (taken table j p) ≡ true
+unfolding takenIn taken phaseIn
+taken-in n k table kept j Idle e = refl
+taken-in n k table kept j (Collecting q h m) e = go (eqb m j)
+  where
+    exists : ltb q (length table) ≡ true
+    exists = and-left (ltb q (length table)) (upTo k h && ltb m n) e
+
+    units : upTo k h ≡ true
+    units = and-left (upTo k h) (ltb m n) (and-right (ltb q (length table)) (upTo k h && ltb m n) e)
+
+    go : (b : Bool) → takenIn n k table (cond b (onward table q h j) Taken.drops) ≡ true
+    go true = onward-in n k table kept q h j exists units
+    go false = refl
+taken-in n k table kept j (Holding q h) e = refl
+
+module _ (st : State) (s j : ℕ) (d : Delivers st s j (st .down s j) (λ m. downPasses st s (takenAt st s j))) where
+  in-range-before : Ranged st
+  in-range-before = ranged st (d .range)
+
+  rest-in : (t : ℕ) → t < st .n → (x : ℕ) → x < st .n → downLane (at2 (st .down) s j (d .rest) t x) ≡ true
+  rest-in t l x b =
+      let downs = in-range-before .downs in
+      at2-all (λ z. downLane z ≡ true) (st .down) s j (d .rest) (down-taken (d .rest) (d .message) (rw (d .taken) at (downs s (d .station) j (d .arbiter)))) t x (downs s (d .station) x b) (downs t l x b)
+
+  taken-ranged : (t : Taken) → takenIn (st .n) (st .stock) (st .table) t ≡ true → downPasses st s t ≡ false → Ranged (receivedAs st s j (d .rest) t)
+  unfolding receivedAs takenIn phaseIn goesUp
+  taken-ranged (Taken.asks q h m) e room =
+      let b = in-range-before in
+      let units = and-right (ltb q (length (st .table))) (upTo (st .stock) h && ltb m (st .n)) e in
+      let below = ltb-true m (st .n) (and-right (upTo (st .stock) h) (ltb m (st .n)) units) in
+      record {
+        limits = b .limits;
+        phases = λ t l. at-all (λ p. phaseIn (st .n) (st .stock) (st .table) p ≡ true) (st .phase) s (Collecting q h m) e t (b .phases t l);
+        arbiters = b .arbiters;
+        ups = λ t l x c. at2-all (λ z. upLane (st .stock) z ≡ true) (st .up) s m (sent (st .up s m) (Request h))
+            (up-sent (st .stock) (st .up s m) (Request h) (b .ups s (d .station) m below) (and-left (upTo (st .stock) h) (ltb m (st .n)) units) room)
+            t x (b .ups s (d .station) x c) (b .ups t l x c);
+        downs = rest-in;
+      }
+  taken-ranged (Taken.holds q h) e room =
+      let b = in-range-before in
+      record {
+        limits = b .limits;
+        phases = λ t l. at-all (λ p. phaseIn (st .n) (st .stock) (st .table) p ≡ true) (st .phase) s (Holding q h) e t (b .phases t l);
+        arbiters = b .arbiters;
+        ups = b .ups;
+        downs = rest-in;
+      }
+  taken-ranged Taken.drops e room =
+      let b = in-range-before in
+      record {
+        limits = b .limits;
+        phases = b .phases;
+        arbiters = b .arbiters;
+        ups = b .ups;
+        downs = rest-in;
+      }
+
+  down-ranged : Ranged (received st s j (st .down s j))
+  unfolding received
+  down-ranged =
+      let b = in-range-before in
+      rw (d .taken) (taken-ranged (takenAt st s j) (taken-in (st .n) (st .stock) (st .table) (b .limits) j (st .phase s) (b .phases s (d .station))) (d .room))
+
+-- ---- Release
+
+release-ranged : (st : State) (s : ℕ) → Releases st s → Ranged (released st s (st .phase s))
+unfolding released phaseIn goesUp
+release-ranged st s r = rw (r .holding) (
+    record {
+      limits = b .limits;
+      phases = λ t l. at-all (λ p. phaseIn (st .n) (st .stock) (st .table) p ≡ true) (st .phase) s Idle refl t (b .phases t l);
+      arbiters = b .arbiters;
+      ups = λ t l j c. at-all (λ row. upLane (st .stock) (row j) ≡ true) (st .up) s (releasing st s (r .quorum)) (row j c) t (b .ups t l j c);
+      downs = b .downs;
+    })
+  where
+    b : Ranged st
+    b = ranged st (r .range)
+
+    row : (j : ℕ) → j < st .n → upLane (st .stock) (releasing st s (r .quorum) j) ≡ true
+    row j c =
+        ⊎-elim
+        (λ (t : member (quorum (st .table) (r .quorum)) j ≡ true).
+        rw (releasing-member st s (r .quorum) j t)
+        (up-sent (st .stock) (st .up s j) Release (b .ups s (r .station) j c) refl
+        (rw (t, releasing-member st s (r .quorum) j t) at (some-never (λ j. releasePasses st s (r .quorum) j) (st .n) (r .room) j c))))
+        (λ (f : member (quorum (st .table) (r .quorum)) j ≡ false). rw (releasing-other st s (r .quorum) j f) (b .ups s (r .station) j c))
+        (known (member (quorum (st .table) (r .quorum)) j))
+
+-- ---- the theorem
+
+-- a fresh state of a table that passes 1 to 4 is in range
+pub fresh-in-range : (n k : ℕ) (table : List ℕ) → brokenLimit n k table ≡ 0 → inRange (fresh n k table) ≡ true
+fresh-in-range n k table kept = in-range (fresh n k table) (fresh-ranged n k table kept)
+
+-- a call, with any numbers as arguments, keeps a state in range
+pub call-in-range : (st : State) (c : Call) → inRange st ≡ true → inRange (call st c .state) ≡ true
+unfolding call request up down release
+call-in-range st (Call.Request s q h) e =
+    answered-as (λ a. inRange (a .state) ≡ true) st (requestRefusal st s q h) 0 0 (requested st s q h)
+    (λ z. in-range (requested st s q h) (request-ranged st s q h (requestable st s q h z))) e
+call-in-range st (Call.Up s j) e =
+    answered-as (λ a. inRange (a .state) ≡ true) st (upRefusal st s j) 0 0 (delivered st s j (st .up s j))
+    (λ z. in-range (delivered st s j (st .up s j)) (up-ranged st s j (delivers st s j _ _ z))) e
+call-in-range st (Call.Down s j) e =
+    answered-as (λ a. inRange (a .state) ≡ true) st (downRefusal st s j) (enters (takenAt st s j)) 0 (received st s j (st .down s j))
+    (λ z. in-range (received st s j (st .down s j)) (down-ranged st s j (delivers st s j _ _ z))) e
+call-in-range st (Call.Release s) e =
+    answered-as (λ a. inRange (a .state) ≡ true) st (releaseRefusal st s) 0 (held (st .phase s)) (released st s (st .phase s))
+    (λ z. in-range (released st s (st .phase s)) (release-ranged st s (releases st s z))) e
+
+-- and so does a list of calls
+pub calls-in-range : (st : State) (calls : List Call) → inRange st ≡ true → inRange (after st calls) ≡ true
+unfolding after
+calls-in-range st [] e = e
+calls-in-range st (c ∷ calls) e = calls-in-range (call st c .state) calls (call-in-range st c e)

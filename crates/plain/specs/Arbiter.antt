@@ -1,0 +1,52 @@
+-- An arbiter's part of Up: a message arrives, then the line is served.
+use mathlib.Core.Bool.{Bool, cond}
+use mathlib.Core.List.{List, [], _∷_, map}
+use Prim.Native.Nat.{ℕ, _+_}
+use lib.Dec.{eqb, leb}
+use Rattle.lists.specs.At.{at}
+use Rattle.lists.specs.Counting.{total}
+use Rattle.plain.specs.Lanes.{sent}
+use Rattle.plain.specs.State.{Arbiter}
+use Rattle.plain.specs.declared.Entry.{Entry}
+use Rattle.plain.specs.declared.Message.{Message}
+use Rattle.plain.specs.declared.Message.the-variants.{Request, Release, Grant}
+
+-- "REQUEST(h) joins the end of j's line. RELEASE sets s's granted units at j to 0." (No up lane in range has a GRANT.)
+unfoldable pub arrived : Message → ℕ → Arbiter → Arbiter
+arrived (Request h) s a = record { granted = a .granted; line = sent (a .line) (record { station = s; units = h }) }
+arrived Release s a = record { granted = at (a .granted) s 0; line = a .line }
+arrived Grant s a = a
+
+-- "fits (its units plus all units granted at j are at most k)"
+unfoldable pub fits : ℕ → ℕ → (ℕ → ℕ) → Entry → Bool
+fits n k granted e = leb (e .units + total granted n) k
+
+-- an arbiter after its line was served, and the entries that were granted, in their order
+pub record Served : Type 0 where
+  pub arbiter : Arbiter
+  pub grants : List Entry
+
+-- one entry granted before the others
+abbrev pub grantedFirst : Entry → Served → Served
+grantedFirst e r = record { arbiter = r .arbiter; grants = e ∷ r .grants }
+
+-- "while the line's first entry fits .., it leaves the line, its units become that station's granted units, and GRANT goes down"
+unfoldable pub serve : ℕ → ℕ → (ℕ → ℕ) → List Entry → Served
+serve n k granted [] = record { arbiter = record { granted = granted; line = [] }; grants = [] }
+serve n k granted (e ∷ line) =
+    cond (fits n k granted e)
+    (grantedFirst e (serve n k (at granted (e .station) (e .units)) line))
+    (record { arbiter = record { granted = granted; line = e ∷ line }; grants = [] })
+
+-- the line of an arbiter is served
+abbrev pub served : ℕ → ℕ → Arbiter → Served
+served n k a = serve n k (a .granted) (a .line)
+
+-- the units of station s in a line, oldest first
+unfoldable pub unitsIn : ℕ → List Entry → List ℕ
+unitsIn s [] = []
+unitsIn s (e ∷ line) = cond (eqb (e .station) s) (e .units ∷ unitsIn s line) (unitsIn s line)
+
+-- the messages that go down to station s: a GRANT for each of its entries that were granted
+abbrev pub grantsTo : ℕ → List Entry → List Message
+grantsTo s grants = map (λ h. Grant) (unitsIn s grants)

@@ -1,0 +1,83 @@
+-- Down.
+use mathlib.Core.Bool.{Bool, false, cond}
+use mathlib.Core.List.{List, [], _∷_}
+use Prim.Native.Nat.{ℕ, suc}
+use lib.Dec.{eqb, ltb}
+use Rattle.lists.specs.At.{at, at2}
+use Rattle.stations.specs.Sets.{places, lowestFrom}
+use Rattle.quorum.specs.Family.{quorum}
+use Rattle.plain.specs.Answer.{Answer, answered}
+use Rattle.plain.specs.Delivery.{deliveryRefusal}
+use Rattle.plain.specs.Lanes.{upPlaces, passes, sent}
+use Rattle.plain.specs.State.{State}
+use Rattle.plain.specs.declared.Message.{Message}
+use Rattle.plain.specs.declared.Message.the-variants.{Request}
+use Rattle.plain.specs.declared.Phase.{Phase}
+use Rattle.plain.specs.declared.Phase.the-variants.{Idle, Collecting, Holding}
+
+-- what a station makes of a GRANT: it asks the next member of its quorum for its units, it holds its units, or it drops the GRANT
+pub data Taken : Type 0 where
+  asks : (quorum units member : ℕ) → Taken
+  holds : (quorum units : ℕ) → Taken
+  drops : Taken
+
+-- "with a higher member left, REQUEST(h) goes up to the lowest such member; otherwise s holds"
+unfoldable pub onward : List ℕ → ℕ → ℕ → ℕ → Taken
+onward table q h j = cond (ltb (lowestFrom (quorum table q) (suc j)) places) (Taken.asks q h (lowestFrom (quorum table q) (suc j))) (Taken.holds q h)
+
+-- "If s is collecting from j .. In every other case GRANT is dropped."
+unfoldable pub taken : List ℕ → ℕ → Phase → Taken
+taken table j Idle = Taken.drops
+taken table j (Collecting q h m) = cond (eqb m j) (onward table q h j) Taken.drops
+taken table j (Holding q h) = Taken.drops
+
+-- what station s makes of a GRANT from j
+abbrev pub takenAt : State → ℕ → ℕ → Taken
+takenAt st s j = taken (st .table) j (st .phase s)
+
+-- "otherwise s holds and h units are entered"
+abbrev pub enters : Taken → ℕ
+enters (Taken.asks q h m) = 0
+enters (Taken.holds q h) = h
+enters Taken.drops = 0
+
+-- "a lane .. would pass its limit": only REQUEST takes a place
+abbrev pub downPasses : State → ℕ → Taken → Bool
+downPasses st s (Taken.asks q h m) = passes upPlaces (sent (st .up s m) (Request h))
+downPasses st s (Taken.holds q h) = false
+downPasses st s Taken.drops = false
+
+abbrev pub downRefusal : State → ℕ → ℕ → ℕ
+downRefusal st s j = deliveryRefusal st s j (st .down s j) (λ m. downPasses st s (takenAt st s j))
+
+-- what the station does then
+abbrev pub phaseThen : State → ℕ → Taken → ℕ → Phase
+phaseThen st s (Taken.asks q h m) = at (st .phase) s (Collecting q h m)
+phaseThen st s (Taken.holds q h) = at (st .phase) s (Holding q h)
+phaseThen st s Taken.drops = st .phase
+
+-- and its lanes up
+abbrev pub upThen : State → ℕ → Taken → ℕ → ℕ → List Message
+upThen st s (Taken.asks q h m) = at2 (st .up) s m (sent (st .up s m) (Request h))
+upThen st s (Taken.holds q h) = st .up
+upThen st s Taken.drops = st .up
+
+-- "takes the oldest message": the state when the rest of the lane is left and the station has made this of the GRANT
+unfoldable pub receivedAs : State → ℕ → ℕ → List Message → Taken → State
+receivedAs st s j rest t =
+    record {
+      n = st .n;
+      stock = st .stock;
+      table = st .table;
+      phase = phaseThen st s t;
+      arbiter = st .arbiter;
+      up = upThen st s t;
+      down = at2 (st .down) s j rest;
+    }
+
+unfoldable pub received : State → ℕ → ℕ → List Message → State
+received st s j [] = st
+received st s j (m ∷ rest) = receivedAs st s j rest (takenAt st s j)
+
+unfoldable pub down : State → ℕ → ℕ → Answer
+down st s j = answered st (downRefusal st s j) (enters (takenAt st s j)) 0 (received st s j (st .down s j))

@@ -1,0 +1,57 @@
+-- The states that a call works on; on any other it answers 19.
+use mathlib.Core.Bool.{Bool, true, false, _&&_}
+use mathlib.Core.List.{List}
+use Prim.Native.Nat.{ℕ}
+use lib.Dec.{eqb, leb, ltb}
+use lib.ListN.{length}
+use Rattle.lists.specs.Search.{all, everyBelow}
+use Rattle.quorum.specs.Limits.{brokenLimit, upTo}
+use Rattle.plain.specs.Lanes.{upPlaces, downPlaces, linePlaces}
+use Rattle.plain.specs.State.{Arbiter, State}
+use Rattle.plain.specs.declared.Entry.{Entry}
+use Rattle.plain.specs.declared.Message.{Message}
+use Rattle.plain.specs.declared.Message.the-variants.{Request, Release, Grant}
+use Rattle.plain.specs.declared.Phase.{Phase}
+use Rattle.plain.specs.declared.Phase.the-variants.{Idle, Collecting, Holding}
+
+-- "up lanes have only REQUEST and RELEASE", and "all other units 1 to k"
+unfoldable pub goesUp : ℕ → Message → Bool
+goesUp k (Request h) = upTo k h
+goesUp k Release = true
+goesUp k Grant = false
+
+-- "down lanes only GRANT"
+unfoldable pub goesDown : Message → Bool
+goesDown (Request h) = false
+goesDown Release = false
+goesDown Grant = true
+
+-- "lanes keep their limits"
+unfoldable pub upLane : ℕ → List Message → Bool
+upLane k lane = leb (length lane) upPlaces && all (goesUp k) lane
+
+unfoldable pub downLane : List Message → Bool
+downLane lane = leb (length lane) downPlaces && all goesDown lane
+
+-- "station and quorum numbers exist .. all other units 1 to k": a station
+unfoldable pub phaseIn : ℕ → ℕ → List ℕ → Phase → Bool
+phaseIn n k table Idle = true
+phaseIn n k table (Collecting q h m) = ltb q (length table) && (upTo k h && ltb m n)
+phaseIn n k table (Holding q h) = ltb q (length table) && upTo k h
+
+-- the same of an entry in a line
+unfoldable pub entryIn : ℕ → ℕ → Entry → Bool
+entryIn n k e = ltb (e .station) n && upTo k (e .units)
+
+-- "granted units are 0 to k .. a line has at most 12 entries"
+unfoldable pub arbiterIn : ℕ → ℕ → Arbiter → Bool
+arbiterIn n k a = everyBelow (λ s. leb (a .granted s) k) n && (leb (length (a .line)) linePlaces && all (entryIn n k) (a .line))
+
+-- "A record is in range when n, k and table pass 1 to 4" and all that belongs to the n stations is as above
+unfoldable pub inRange : State → Bool
+inRange st =
+    eqb (brokenLimit (st .n) (st .stock) (st .table)) 0
+    && (everyBelow (λ s. phaseIn (st .n) (st .stock) (st .table) (st .phase s)) (st .n)
+    && (everyBelow (λ j. arbiterIn (st .n) (st .stock) (st .arbiter j)) (st .n)
+    && (everyBelow (λ s. everyBelow (λ j. upLane (st .stock) (st .up s j)) (st .n)) (st .n)
+    && everyBelow (λ s. everyBelow (λ j. downLane (st .down s j)) (st .n)) (st .n))))

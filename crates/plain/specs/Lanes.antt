@@ -1,0 +1,27 @@
+-- Lanes and lines: their limits, and the place of what is new.
+use mathlib.Core.Bool.{Bool}
+use mathlib.Core.List.{List, [], _∷_, _++_}
+use Prim.Native.Nat.{ℕ}
+use lib.Dec.{ltb}
+use lib.ListN.{length}
+
+-- "an up lane of at most 4 messages"
+abbrev pub upPlaces : ℕ
+upPlaces = 4
+
+-- "a down lane of at most 2"
+abbrev pub downPlaces : ℕ
+downPlaces = 2
+
+-- "a line has at most 12 entries"
+abbrev pub linePlaces : ℕ
+linePlaces = 12
+
+module _ {A : Type 0} where
+  -- whether a lane or line passes its limit
+  abbrev pub passes : ℕ → List A → Bool
+  passes limit l = ltb limit (length l)
+
+  -- "oldest first": what is sent last stands last
+  abbrev pub sent : List A → A → List A
+  sent lane m = lane ++ (m ∷ [])

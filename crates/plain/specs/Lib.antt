@@ -1,0 +1,11 @@
+pub mod State
+pub mod Lanes
+pub mod Answer
+pub mod InRange
+pub mod Request
+pub mod Arbiter
+pub mod Delivery
+pub mod Up
+pub mod Down
+pub mod Release
+pub mod Run

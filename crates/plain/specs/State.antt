@@ -1,0 +1,36 @@
+-- The state of the plain machine: functions of the stations' numbers, for any number of stations.
+use mathlib.Core.List.{List, []}
+use Prim.Native.Nat.{ℕ}
+use Rattle.plain.specs.declared.Entry.{Entry}
+use Rattle.plain.specs.declared.Message.{Message}
+use Rattle.plain.specs.declared.Phase.{Phase}
+use Rattle.plain.specs.declared.Phase.the-variants.{Idle}
+
+-- "Each arbiter .. has for every station the units granted (0 if none) and a line of waiting (station, units), oldest first."
+pub record Arbiter : Type 0 where
+  pub granted : ℕ → ℕ
+  pub line : List Entry
+
+-- n, the stock and the table; what each station does; an arbiter for each station; and "for each pair (station s, arbiter j)" an up
+-- lane and a down lane, "oldest first"
+pub record State : Type 0 where
+  pub n : ℕ
+  pub stock : ℕ
+  pub table : List ℕ
+  pub phase : ℕ → Phase
+  pub arbiter : ℕ → Arbiter
+  pub up : ℕ → ℕ → List Message
+  pub down : ℕ → ℕ → List Message
+
+-- "At the start all is idle and empty."
+unfoldable pub fresh : ℕ → ℕ → List ℕ → State
+fresh n k table =
+    record {
+      n = n;
+      stock = k;
+      table = table;
+      phase = λ s. Idle;
+      arbiter = λ j. record { granted = λ s. 0; line = [] };
+      up = λ s j. [];
+      down = λ s j. [];
+    }

@@ -1,0 +1,53 @@
+-- Up.
+use mathlib.Core.Bool.{Bool, cond, _||_}
+use mathlib.Core.List.{List, [], _∷_, _++_}
+use Prim.Native.Nat.{ℕ}
+use lib.Dec.{eqb}
+use Rattle.lists.specs.At.{at, at2}
+use Rattle.lists.specs.Search.{someBelow}
+use Rattle.plain.specs.Answer.{Answer, answered}
+use Rattle.plain.specs.Arbiter.{arrived, Served, served, grantsTo}
+use Rattle.plain.specs.Delivery.{deliveryRefusal}
+use Rattle.plain.specs.Lanes.{downPlaces, linePlaces, passes}
+use Rattle.plain.specs.State.{Arbiter, State}
+use Rattle.plain.specs.declared.Entry.{Entry}
+use Rattle.plain.specs.declared.Message.{Message}
+
+-- arbiter j when the message m of station s has arrived
+abbrev pub arrivedAt : State → ℕ → ℕ → Message → Arbiter
+arrivedAt st s j m = arrived m s (st .arbiter j)
+
+-- and when its line was served then
+abbrev pub servedAt : State → ℕ → ℕ → Message → Served
+servedAt st s j m = served (st .n) (st .stock) (arrivedAt st s j m)
+
+-- "GRANT goes down the lane from j to that station": the lanes down, for the entries granted at j
+unfoldable pub granting : State → ℕ → List Entry → ℕ → ℕ → List Message
+granting st j grants t i = cond (eqb i j) (st .down t j ++ grantsTo t grants) (st .down t i)
+
+-- "a lane or line would pass its limit, even for a moment within the call": the line is longest when the message has joined it, a lane
+-- down when all grants are in it
+abbrev pub upPasses : State → ℕ → ℕ → Message → Bool
+upPasses st s j m =
+    passes linePlaces (arrivedAt st s j m .line)
+    || someBelow (λ t. passes downPlaces (granting st j (servedAt st s j m .grants) t j)) (st .n)
+
+abbrev pub upRefusal : State → ℕ → ℕ → ℕ
+upRefusal st s j = deliveryRefusal st s j (st .up s j) (upPasses st s j)
+
+-- "takes the oldest message": the arbiter's part, then the grants go down
+unfoldable pub delivered : State → ℕ → ℕ → List Message → State
+delivered st s j [] = st
+delivered st s j (m ∷ rest) =
+    record {
+      n = st .n;
+      stock = st .stock;
+      table = st .table;
+      phase = st .phase;
+      arbiter = at (st .arbiter) j (servedAt st s j m .arbiter);
+      up = at2 (st .up) s j rest;
+      down = granting st j (servedAt st s j m .grants);
+    }
+
+unfoldable pub up : State → ℕ → ℕ → Answer
+up st s j = answered st (upRefusal st s j) 0 0 (delivered st s j (st .up s j))

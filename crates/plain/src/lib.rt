@@ -1,0 +1,21 @@
+// The plain machine: what messages, stations and lines are made of. The machine itself stands in the definitions.
+
+// REQUEST and RELEASE go up from a station to an arbiter, GRANT comes down.
+pub enum Message {
+    Request(u8),
+    Release,
+    Grant,
+}
+
+// What a station does: nothing, collect permission for so many units from the members of a quorum, or hold them.
+pub enum Phase {
+    Idle,
+    Collecting { quorum: u8, units: u8, member: u8 },
+    Holding { quorum: u8, units: u8 },
+}
+
+// A place in an arbiter's line.
+pub struct Entry {
+    pub station: u8,
+    pub units: u8,
+}
