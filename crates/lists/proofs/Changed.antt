@@ -21,6 +21,17 @@ module _ {A : Type 0} where
   at-all P f a x p i q =
       by-cases (ℕ-discrete i a) (λ (e : i ≡ a). rw (e, at-same f a x) p) (λ (d : i ≡ a → ⊥). rw (at-other f a x i d) q)
 
--- the same of a pair: what holds of x, of f in its row and of f at i, j
+-- the same of a pair
+module _ {A : Type 0} where
+  pub at2-same : (f : ℕ → ℕ → A) (a b : ℕ) (x : A) → at2 f a b x a b ≡ x
+  at2-same f a b x = rw (at-same f a (at (f a) b x), at-same (f a) b x)
+
+  pub at2-other : (f : ℕ → ℕ → A) (a b : ℕ) (x : A) (i j : ℕ) → (i ≡ a → j ≡ b → ⊥) → at2 f a b x i j ≡ f i j
+  at2-other f a b x i j d =
+      by-cases (ℕ-discrete i a)
+      (λ (e : i ≡ a). rw (e, at-same f a (at (f a) b x)) (at-other (f a) b x j (d e)))
+      (λ (o : i ≡ a → ⊥). rw (at-other f a (at (f a) b x) i o))
+
+-- what holds of x, of f in its row and of f at i, j
 pub at2-all : {A : Type 0} (P : A → Type 0) (f : ℕ → ℕ → A) (a b : ℕ) (x : A) → P x → (i j : ℕ) → P (f a j) → P (f i j) → P (at2 f a b x i j)
 at2-all P f a b x p i j row q = at-all (λ r. P (r j)) f a (at (f a) b x) (at-all P (f a) b x p j row) i q

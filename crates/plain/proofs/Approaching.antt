@@ -20,6 +20,7 @@ use Rattle.quorum.proofs.LimitLaws.{Limits, limits-kept}
 -- m is the lowest member from i on of a quorum of n stations
 pub record Lowest-member (n q i m : ℕ) : Type 0 where
   pub station : m < n
+  pub place : m < places
   pub from : i ≤ m
   pub belongs : member q m ≡ true
   pub before : (j : ℕ) → i ≤ j → j < m → member q j ≡ false
@@ -38,6 +39,7 @@ module _ (n k : ℕ) (table : List ℕ) (kept : brokenLimit n k table ≡ 0) (p 
       let (from, belongs) = l .found h in
       record {
         station = member-station n (quorum table p) (lowestFrom (quorum table p) i) small belongs;
+        place = h;
         from = from;
         belongs = belongs;
         before = l .before;

@@ -30,7 +30,7 @@ abbrev pub heldBy : (ℕ → Phase) → ℕ → ℕ
 heldBy phase n = total (λ s. held (phase s)) n
 
 -- one station changes its phase
-held-at : (phase : ℕ → Phase) (s n : ℕ) (p : Phase) → s < n → heldBy (at phase s p) n + held (phase s) ≡ heldBy phase n + held p
+pub held-at : (phase : ℕ → Phase) (s n : ℕ) (p : Phase) → s < n → heldBy (at phase s p) n + held (phase s) ≡ heldBy phase n + held p
 held-at phase s n p l =
     let same = total-same (λ t. held (at phase s p t)) (at (λ t. held (phase t)) s (held p)) n (λ t b. one t) in
     let sum = total-at (λ t. held (phase t)) s (held p) n l in

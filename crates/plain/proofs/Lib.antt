@@ -13,4 +13,7 @@ pub mod ArbitersInRange
 pub mod StaysInRange
 pub mod SameTable
 pub mod Bound
+pub mod Collecting
+pub mod Collected
+pub mod Exceeded
 pub mod Serving

@@ -9,3 +9,4 @@ pub mod Up
 pub mod Down
 pub mod Release
 pub mod Run
+pub mod Exceeding
