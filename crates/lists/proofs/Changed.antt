@@ -32,6 +32,12 @@ module _ {A : Type 0} where
       (λ (e : i ≡ a). rw (e, at-same f a (at (f a) b x)) (at-other (f a) b x j (d e)))
       (λ (o : i ≡ a → ⊥). rw (at-other f a (at (f a) b x) i o))
 
--- what holds of x, of f in its row and of f at i, j
-pub at2-all : {A : Type 0} (P : A → Type 0) (f : ℕ → ℕ → A) (a b : ℕ) (x : A) → P x → (i j : ℕ) → P (f a j) → P (f i j) → P (at2 f a b x i j)
-at2-all P f a b x p i j row q = at-all (λ r. P (r j)) f a (at (f a) b x) (at-all P (f a) b x p j row) i q
+  -- what holds of x, and of f at i, j where that is another pair
+  pub at2-all : (P : A → Type 0) (f : ℕ → ℕ → A) (a b : ℕ) (x : A) → P x → (i j : ℕ) → ((i ≡ a → j ≡ b → ⊥) → P (f i j)) → P (at2 f a b x i j)
+  at2-all P f a b x p i j q =
+      by-cases (ℕ-discrete j b)
+      (λ (e : j ≡ b). by-cases (ℕ-discrete i a) (λ (e′ : i ≡ a). rw (e, e′, at2-same f a b x) p) (λ (o : i ≡ a → ⊥). elsewhere (λ y z. o y)))
+      (λ (o : j ≡ b → ⊥). elsewhere (λ y z. o z))
+    where
+      elsewhere : (i ≡ a → j ≡ b → ⊥) → P (at2 f a b x i j)
+      elsewhere o = rw (at2-other f a b x i j o) (q o)

@@ -4,10 +4,11 @@ use mathlib.Core.Bool.{true, false}
 use mathlib.Core.List.{List}
 use mathlib.Core.Logic.{by-cases}
 use mathlib.Core.Path.{_≡_}
-use Prim.Native.Nat.{ℕ, _≤_, _<_, _^_}
+use Prim.Native.Nat.{ℕ, suc, _≤_, _<_, _^_}
 use native.Mathlib.Decide.{decLt}
 use native.Mathlib.Omega.{arith}
 use lib.ListN.{length}
+use borrow.Author.Tests.{lt-ltb, le-ltb}
 use Rattle.lists.proofs.Tests.{clash}
 use Rattle.stations.specs.Member.{member}
 use Rattle.stations.specs.Sets.{places, lowestFrom}
@@ -16,6 +17,7 @@ use Rattle.stations.proofs.Members.{member-below, member-station, some-member}
 use Rattle.quorum.specs.Family.{quorum}
 use Rattle.quorum.specs.Limits.{brokenLimit}
 use Rattle.quorum.proofs.LimitLaws.{Limits, limits-kept}
+use Rattle.plain.specs.Down.{Taken, onward}
 
 -- m is the lowest member from i on of a quorum of n stations
 pub record Lowest-member (n q i m : ℕ) : Type 0 where
@@ -59,3 +61,15 @@ module _ (n k : ℕ) (table : List ℕ) (kept : brokenLimit n k table ≡ 0) (p 
       (λ (none : ¬ (lowestFrom (quorum table p) 0 < places)).
       let (i, m) = some-member (quorum table p) (limits .members p exists .0) in
       absurd (clash m (no-member 0 none i (omega arith)))))
+
+  -- a station that collects from j and takes its GRANT asks the lowest member above j, or there is none and it holds
+  pub onward-as : (P : Taken → Type 0) (h j : ℕ)
+      → (Lowest-member n (quorum table p) (suc j) (lowestFrom (quorum table p) (suc j)) → P (Taken.asks p h (lowestFrom (quorum table p) (suc j))))
+      → ((lowestFrom (quorum table p) (suc j) < places → ⊥) → ((i : ℕ) → suc j ≤ i → member (quorum table p) i ≡ false) → P (Taken.holds p h))
+      → P (onward table p h j)
+  unfolding onward
+  onward-as P h j asks holds =
+      by-cases (decLt (lowestFrom (quorum table p) (suc j)) places)
+      (λ (l : lowestFrom (quorum table p) (suc j) < places). rw (lt-ltb (lowestFrom (quorum table p) (suc j)) places l) (asks (next-member (suc j) l)))
+      (λ (l : ¬ (lowestFrom (quorum table p) (suc j) < places)).
+      rw (le-ltb (lowestFrom (quorum table p) (suc j)) places (omega arith)) (holds l (no-member (suc j) l)))

@@ -58,7 +58,7 @@ module _ (n k : ℕ) where
       }
   arrived-in Release s a l u room f =
       record {
-        grants = λ t b. at-all (λ g. g ≤ k) (a .granted) s 0 (omega arith) t (f .grants t b);
+        grants = λ t b. at-all (λ g. g ≤ k) (a .granted) s _ (omega (arith, f .grants s l)) t (f .grants t b);
         short = f .short;
         entries = f .entries;
       }

@@ -27,10 +27,11 @@ use Rattle.plain.specs.State.{State}
 use Rattle.plain.specs.declared.Phase.{Phase}
 use Rattle.plain.specs.declared.Phase.the-variants.{Holding}
 use Rattle.plain.proofs.Approaching.{next-member}
-use Rattle.plain.proofs.Collecting.{Calm, toward, Visiting, request-done, request-visits, grantedTo, visited, visit-done, visit, pass-by}
 use Rattle.plain.proofs.Held.{heldBy, held-at}
 use Rattle.plain.proofs.Range.{ranged}
 use Rattle.plain.proofs.SameTable.{Same-table, calls-same}
+use Rattle.plain.proofs.Visited.{grantedTo, visited, visit-done, visit}
+use Rattle.plain.proofs.Visiting.{Calm, toward, Visiting, request-done, request-visits, pass-by}
 
 -- a member is visited by two calls, any other arbiter by none
 visits-member : (st : State) (q s i more : ℕ) → member q i ≡ true

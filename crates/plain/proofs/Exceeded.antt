@@ -1,7 +1,7 @@
 -- The other direction: on a table that lacks a common member a list of calls leads to one unit too many.
 -- Assumes nothing.
 use mathlib.Core.Bool.{true, false, cond}
-use mathlib.Core.List.{List, [], _∷_, _++_}
+use mathlib.Core.List.{List, [], _∷_}
 use mathlib.Core.Logic.{_⊎_, inl, inr, ⊎-elim}
 use mathlib.Core.Path.{_≡_, refl, sym, ap, _∙_}
 use Prim.Native.Nat.{ℕ, suc, _+_, _-_, _≤_, _<_}
@@ -25,21 +25,16 @@ use Rattle.quorum.proofs.LimitLaws.{limits-kept}
 use Rattle.quorum.proofs.Sorted.{family-numbers}
 use Rattle.quorum.proofs.Widths.{width-le-n}
 use Rattle.plain.specs.Exceeding.{collects, exceeds, exceeding}
-use Rattle.plain.specs.Run.{left, Call, call, run, after, Difference}
+use Rattle.plain.specs.Run.{left, run, after, Difference}
 use Rattle.plain.specs.State.{State, fresh}
 use Rattle.plain.proofs.Approaching.{first-member}
 use Rattle.plain.proofs.Collected.{collected}
-use Rattle.plain.proofs.Collecting.{Calm}
 use Rattle.plain.proofs.Held.{heldBy, difference-held}
 use Rattle.plain.proofs.Range.{ranged}
+use Rattle.plain.proofs.Runs.{after-append}
 use Rattle.plain.proofs.SameTable.{calls-same}
 use Rattle.plain.proofs.StaysInRange.{fresh-in-range}
-
--- one list of calls, then another
-after-append : (st : State) (a b : List Call) → after st (a ++ b) ≡ after (after st a) b
-unfolding after
-after-append st [] b = refl
-after-append st (c ∷ a) b = after-append (call st c .state) a b
+use Rattle.plain.proofs.Visiting.{Calm}
 
 after-one : (st : State) (n s r p : ℕ) (table : List ℕ) → after st (exceeds n table s r (p ∷ [])) ≡ after st (collects n table s p r)
 unfolding exceeds

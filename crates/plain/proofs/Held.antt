@@ -15,15 +15,15 @@ use Rattle.lists.proofs.Totals.{total-same, total-at, total-none}
 use Rattle.stations.specs.Sets.{places, lowestFrom}
 use Rattle.quorum.specs.Family.{quorum}
 use Rattle.plain.specs.Answer.{Answer}
-use Rattle.plain.specs.Down.{Taken, onward, taken, takenAt, enters, phaseThen, downRefusal, receivedAs, received, down}
-use Rattle.plain.specs.Release.{releaseRefusal, released, held, release}
-use Rattle.plain.specs.Request.{lowest, requestRefusal, requested, request}
+use Rattle.plain.specs.Down.{Taken, onward, taken, takenAt, enters, phaseThen, receivedAs, received}
+use Rattle.plain.specs.Release.{released, held}
+use Rattle.plain.specs.Request.{lowest, requested}
 use Rattle.plain.specs.Run.{Call, call, run, after, entered, left, Difference}
 use Rattle.plain.specs.State.{State, fresh}
-use Rattle.plain.specs.Up.{upRefusal, delivered, up}
+use Rattle.plain.specs.Up.{delivered}
 use Rattle.plain.specs.declared.Phase.{Phase}
 use Rattle.plain.specs.declared.Phase.the-variants.{Idle, Collecting, Holding}
-use Rattle.plain.proofs.Passed.{answered-as, requestable, delivers, releases}
+use Rattle.plain.proofs.Calls.{each-call}
 
 -- the units of those of n stations that hold
 abbrev pub heldBy : (ℕ → Phase) → ℕ → ℕ
@@ -67,28 +67,22 @@ grant-balance st s j l = go (st .phase s) refl
         asked false b x = omega arith
 
 pub call-balance : (st : State) (c : Call) → call st c .entered + heldBy (st .phase) (st .n) ≡ call st c .left + heldBy (call st c .state .phase) (call st c .state .n)
-unfolding call request requested up delivered down received receivedAs release released
-call-balance st (Call.Request s q h) =
-    answered-as (Balanced st) st (requestRefusal st s q h) 0 0 (requested st s q h)
-    (λ z. let r = requestable st s q h z in
-    let none : held (st .phase s) ≡ 0 = rw (r .idle) in
-    omega (arith, none, held-at (st .phase) s (st .n) (Collecting q h (lowest st q)) (r .station)))
-    refl
-call-balance st (Call.Up s j) =
-    answered-as (Balanced st) st (upRefusal st s j) 0 0 (delivered st s j (st .up s j))
-    (λ z. rw (delivers st s j _ _ z .taken) refl)
-    refl
-call-balance st (Call.Down s j) =
-    answered-as (Balanced st) st (downRefusal st s j) (enters (takenAt st s j)) 0 (received st s j (st .down s j))
-    (λ z. let d = delivers st s j _ _ z in rw (d .taken) (omega (arith, grant-balance st s j (d .station))))
-    refl
-call-balance st (Call.Release s) =
-    answered-as (Balanced st) st (releaseRefusal st s) 0 (held (st .phase s)) (released st s (st .phase s))
-    (λ z. let r = releases st s z in
-    let sum = held-at (st .phase) s (st .n) Idle (r .station) in
-    let mine : held (st .phase s) ≡ r .units = rw (r .holding) in
-    rw (r .holding) (omega arith))
-    refl
+unfolding requested delivered received receivedAs released
+call-balance st c =
+    each-call (Balanced st) st
+    (record {
+      is-refused = λ r. refl;
+      by-request = λ s q h r.
+          let none : held (st .phase s) ≡ 0 = rw (r .idle) in
+          omega (arith, none, held-at (st .phase) s (st .n) (Collecting q h (lowest st q)) (r .station));
+      by-up = λ s j d. rw (d .taken) refl;
+      by-down = λ s j d. rw (d .taken) (omega (arith, grant-balance st s j (d .station)));
+      by-release = λ s r.
+          let sum = held-at (st .phase) s (st .n) Idle (r .station) in
+          let mine : held (st .phase s) ≡ r .units = rw (r .holding) in
+          rw (r .holding) (omega arith);
+    })
+    c
 
 pub calls-balance : (st : State) (calls : List Call)
     → entered (run st calls) + heldBy (st .phase) (st .n) ≡ left (run st calls) + heldBy (after st calls .phase) (after st calls .n)

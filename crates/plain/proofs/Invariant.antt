@@ -1,43 +1,45 @@
 -- What holds in every state that calls lead to from a fresh one: a law for each call.
 -- Assumes nothing.
 use mathlib.Core.Bool.{Bool, true, false}
-use mathlib.Core.List.{List, [], _∷_, _++_}
+use mathlib.Core.List.{List, _++_}
 use mathlib.Core.Logic.{by-cases, ⊎-elim}
 use mathlib.Core.Path.{_≡_, refl, sym}
 use Prim.Native.Nat.{ℕ, suc, _≤_, _<_}
-use native.Mathlib.Decide.{ℕ-discrete, decLt}
+use native.Mathlib.Decide.{ℕ-discrete}
 use native.Mathlib.Omega.{arith}
 use lib.Dec.{ltb}
 use lib.ListN.{length}
-use borrow.Author.Tests.{eq-eqb, ne-eqb, lt-ltb, le-ltb, ltb-true}
+use borrow.Author.Tests.{eq-eqb, ne-eqb, ltb-true}
 use Rattle.lists.specs.At.{at, at2}
 use Rattle.lists.specs.Counting.{total}
 use Rattle.lists.proofs.Changed.{at-same, at-other, at-all}
 use Rattle.lists.proofs.Tests.{known, and-left}
 use Rattle.lists.proofs.Totals.{total-none}
 use Rattle.stations.specs.Member.{member}
-use Rattle.stations.specs.Sets.{places, lowestFrom}
+use Rattle.stations.specs.Sets.{lowestFrom}
 use Rattle.quorum.specs.Family.{quorum}
 use Rattle.plain.specs.Arbiter.{unitsIn, served, grantsTo}
-use Rattle.plain.specs.Down.{Taken, onward, taken, takenAt, downPasses, receivedAs, received, enters, downRefusal, down}
+use Rattle.plain.specs.Down.{Taken, taken, takenAt, downPasses, receivedAs, received, down}
 use Rattle.plain.specs.InRange.{goesUp, phaseIn}
 use Rattle.plain.specs.Lanes.{sent}
-use Rattle.plain.specs.Release.{releasing, released, releaseRefusal, held, release}
-use Rattle.plain.specs.Request.{requestRefusal, request, lowest, requested}
+use Rattle.plain.specs.Release.{releasing, released}
+use Rattle.plain.specs.Request.{lowest, requested}
 use Rattle.plain.specs.Run.{Call, call, after}
 use Rattle.plain.specs.State.{Arbiter, fresh, State}
-use Rattle.plain.specs.Up.{arrivedAt, upPasses, granting, delivered, upRefusal, up}
+use Rattle.plain.specs.Up.{arrivedAt, upPasses, granting, delivered}
 use Rattle.plain.specs.declared.Message.{Message}
-use Rattle.plain.specs.declared.Message.the-variants.{Request, Release}
+use Rattle.plain.specs.declared.Message.the-variants.{Request}
 use Rattle.plain.specs.declared.Phase.{Phase}
 use Rattle.plain.specs.declared.Phase.the-variants.{Idle, Collecting, Holding}
-use Rattle.plain.proofs.Approaching.{Lowest-member, first-member, next-member, no-member}
+use Rattle.plain.proofs.Approaching.{onward-as, Lowest-member, first-member}
 use Rattle.plain.proofs.Arriving.{arrived-own, arrived-line, arrived-grants, arrived-stock}
+use Rattle.plain.proofs.Calls.{each-call}
 use Rattle.plain.proofs.LanesInRange.{up-oldest}
 use Rattle.plain.proofs.Pairs.{Part, Pair, sends-request, takes-grant, sends-release, line-served}
-use Rattle.plain.proofs.Passed.{answered-as, requestable, delivers, releases, Requestable, Delivers, Releases}
+use Rattle.plain.proofs.Passed.{Requestable, Delivers, Releases}
 use Rattle.plain.proofs.Range.{ranged}
 use Rattle.plain.proofs.Releasing.{releasing-member, releasing-other}
+use Rattle.plain.proofs.Runs.{after-keeps}
 use Rattle.plain.proofs.Serving.{units-append, serve-splits, serve-grants, serve-stock}
 use Rattle.plain.proofs.Wants.{wants-holding, share, wants, share-member, share-other, wants-here, wants-below, wants-above, wants-first, wants-next, wants-all, waits-for}
 
@@ -203,11 +205,11 @@ module _ (st : State) (s j : ℕ) (d : Delivers st s j (st .down s j) (λ x. dow
           (λ (o : x ≡ j → ⊥). rw (at-other (st .down s) j (d .rest) x o, wants-all (st .table) q h j none x o) (before x))
 
   grant-keeps : Invariant (receivedAs st s j (d .rest) (takenAt st s j))
-  unfolding taken onward
-  grant-keeps = rw (collecting, eq-eqb j j refl) (
-      by-cases (decLt (lowestFrom (quorum (st .table) q) (suc j)) places)
-      (λ (l : lowestFrom (quorum (st .table) q) (suc j) < places). rw (lt-ltb (lowestFrom (quorum (st .table) q) (suc j)) places l) (asks-keeps (lowestFrom (quorum (st .table) q) (suc j)) (next-member (st .n) (st .stock) (st .table) (ranged st (d .range) .limits) q exists (suc j) l)))
-      (λ (l : ¬ (lowestFrom (quorum (st .table) q) (suc j) < places)). rw (le-ltb (lowestFrom (quorum (st .table) q) (suc j)) places (omega arith)) (holds-keeps (no-member (st .n) (st .stock) (st .table) (ranged st (d .range) .limits) q exists (suc j) l))))
+  unfolding taken
+  grant-keeps =
+      rw (collecting, eq-eqb j j refl)
+      (onward-as (st .n) (st .stock) (st .table) (ranged st (d .range) .limits) q exists (λ t. Invariant (receivedAs st s j (d .rest) t)) h j
+      (λ low. asks-keeps (lowestFrom (quorum (st .table) q) (suc j)) low) (λ l none. holds-keeps none))
 
 pub down-keeps : (st : State) (s j : ℕ) (d : Delivers st s j (st .down s j) (λ x. downPasses st s (takenAt st s j))) → Invariant st → Invariant (received st s j (st .down s j))
 unfolding received
@@ -253,17 +255,16 @@ fresh-keeps n k table =
     }
 
 pub call-keeps : (st : State) (c : Call) → Invariant st → Invariant (call st c .state)
-unfolding call request up down release
-call-keeps st (Call.Request s q h) i =
-    answered-as (λ a. Invariant (a .state)) st (requestRefusal st s q h) 0 0 (requested st s q h) (λ z. request-keeps st s q h (requestable st s q h z) i) i
-call-keeps st (Call.Up s j) i =
-    answered-as (λ a. Invariant (a .state)) st (upRefusal st s j) 0 0 (delivered st s j (st .up s j)) (λ z. up-keeps st s j (delivers st s j _ _ z) i) i
-call-keeps st (Call.Down s j) i =
-    answered-as (λ a. Invariant (a .state)) st (downRefusal st s j) (enters (takenAt st s j)) 0 (received st s j (st .down s j)) (λ z. down-keeps st s j (delivers st s j _ _ z) i) i
-call-keeps st (Call.Release s) i =
-    answered-as (λ a. Invariant (a .state)) st (releaseRefusal st s) 0 (held (st .phase s)) (released st s (st .phase s)) (λ z. release-keeps st s (releases st s z) i) i
+call-keeps st c i =
+    each-call (λ a. Invariant (a .state)) st
+    (record {
+      is-refused = λ r. i;
+      by-request = λ s q h r. request-keeps st s q h r i;
+      by-up = λ s j d. up-keeps st s j d i;
+      by-down = λ s j d. down-keeps st s j d i;
+      by-release = λ s r. release-keeps st s r i;
+    })
+    c
 
 pub calls-keep : (st : State) (calls : List Call) → Invariant st → Invariant (after st calls)
-unfolding after
-calls-keep st [] i = i
-calls-keep st (c ∷ calls) i = calls-keep (call st c .state) calls (call-keeps st c i)
+calls-keep st calls i = after-keeps Invariant call-keeps st calls i

@@ -27,10 +27,7 @@ use Rattle.plain.specs.Request.{requestRefusal, requested, request}
 use Rattle.plain.specs.Run.{Call, call, run}
 use Rattle.plain.specs.State.{fresh}
 use Rattle.plain.specs.Up.{granting, delivered, up}
-
--- what a call answers, but for the state
-pub data Call-says : Type 0 where
-  one : (refusal entered left : ℕ) → Call-says
+use Rattle.plain.proofs.HandMade.{Call-says, said, done, enters, refuses}
 
 -- what a marked case says: the check's answer on a table, a quorum, or the answers of a run
 pub data Says : Type 0 where
@@ -45,9 +42,6 @@ check n k t = says (answer n k t scratchBytes)
     says : Rattle.quorum.specs.Answer.Answer → Says
     says a = Says.table (a .refusal) (a .width) (a .even) (a .family)
 
-abbrev said : Answer → Call-says
-said a = Call-says.one (a .refusal) (a .entered) (a .left)
-
 -- the answers to a list of calls from the fresh state
 abbrev from-fresh : ℕ → ℕ → List ℕ → List Call → Says
 from-fresh n k t list = Says.calls (map said (run (fresh n k t) list))
@@ -58,14 +52,11 @@ three = 3 ∷ 5 ∷ 6 ∷ []
 abbrev four : List ℕ
 four = 7 ∷ 11 ∷ 13 ∷ 14 ∷ []
 
-abbrev enters : List Call
-enters = Call.Request 0 0 1 ∷ Call.Up 0 0 ∷ Call.Down 0 0 ∷ Call.Up 0 1 ∷ Call.Down 0 1 ∷ []
+abbrev first-enters : List Call
+first-enters = Call.Request 0 0 1 ∷ Call.Up 0 0 ∷ Call.Down 0 0 ∷ Call.Up 0 1 ∷ Call.Down 0 1 ∷ []
 
-abbrev waits : List Call
-waits = Call.Request 1 2 1 ∷ Call.Up 1 1 ∷ Call.Down 1 1 ∷ []
-
-abbrev done : Call-says
-done = Call-says.one 0 0 0
+abbrev second-waits : List Call
+second-waits = Call.Request 1 2 1 ∷ Call.Up 1 1 ∷ Call.Down 1 1 ∷ []
 
 pub marked :
     _≡_ {A = List Says}
@@ -79,8 +70,8 @@ pub marked :
     ∷ check 2 1 (1 ∷ 3 ∷ [])
     ∷ check 2 1 (1 ∷ 2 ∷ 3 ∷ [])
     ∷ Says.quorum (cubeQuorum 3 1 0)
-    ∷ from-fresh 3 1 three enters
-    ∷ from-fresh 3 1 three (enters ++ waits)
+    ∷ from-fresh 3 1 three first-enters
+    ∷ from-fresh 3 1 three (first-enters ++ second-waits)
     ∷ [])
     (Says.table 0 0 1 []
     ∷ Says.table 0 3 1 []
@@ -92,8 +83,8 @@ pub marked :
     ∷ Says.table 7 0 0 []
     ∷ Says.table 6 2 0 (0 ∷ 1 ∷ [])
     ∷ Says.quorum 79
-    ∷ Says.calls (done ∷ done ∷ done ∷ done ∷ Call-says.one 0 1 0 ∷ [])
-    ∷ Says.calls (done ∷ done ∷ done ∷ done ∷ Call-says.one 0 1 0 ∷ done ∷ done ∷ Call-says.one 13 0 0 ∷ [])
+    ∷ Says.calls (done ∷ done ∷ done ∷ done ∷ enters 1 ∷ [])
+    ∷ Says.calls (done ∷ done ∷ done ∷ done ∷ enters 1 ∷ done ∷ done ∷ refuses 13 ∷ [])
     ∷ [])
 unfolding answer answerTo refusal nested even belongs width emptied leastSize firstFamily lacksCommon commonWithin families brokenLimit member contains cubeQuorum setOf agree coordinate lowestAmong lowestFrom at total fresh answered arrived fits serve unitsIn onward taken receivedAs received down goesUp goesDown upLane downLane phaseIn entryIn arbiterIn inRange releasing releaseRefusal released release requestRefusal requested request call run granting laneRefusal deliveryRefusal delivered up
 marked = refl

@@ -3,16 +3,16 @@
 use mathlib.Core.List.{List, [], _∷_}
 use mathlib.Core.Path.{_≡_, refl, _∙_}
 use Prim.Native.Nat.{ℕ}
-use Rattle.plain.specs.Down.{takenAt, enters, downRefusal, receivedAs, received, down}
-use Rattle.plain.specs.Release.{releaseRefusal, released, held, release}
-use Rattle.plain.specs.Request.{requestRefusal, requested, request}
+use Rattle.plain.specs.Down.{receivedAs, received}
+use Rattle.plain.specs.Release.{released}
+use Rattle.plain.specs.Request.{requested}
 use Rattle.plain.specs.Run.{Call, call, after}
 use Rattle.plain.specs.State.{State}
-use Rattle.plain.specs.Up.{upRefusal, delivered, up}
+use Rattle.plain.specs.Up.{delivered}
 use Rattle.plain.specs.declared.Message.{Message}
 use Rattle.plain.specs.declared.Phase.{Phase}
 use Rattle.plain.specs.declared.Phase.the-variants.{Idle, Collecting, Holding}
-use Rattle.plain.proofs.Passed.{answered-as}
+use Rattle.plain.proofs.Calls.{each-call}
 
 pub record Same-table (st next : State) : Type 0 where
   pub n : next .n ≡ st .n
@@ -39,15 +39,17 @@ released-same st s (Collecting q h m) = same st
 released-same st s (Holding q h) = record { n = refl; stock = refl; table = refl }
 
 pub call-same : (st : State) (c : Call) → Same-table st (call st c .state)
-unfolding call request requested up down release
-call-same st (Call.Request s q h) =
-    answered-as (λ a. Same-table st (a .state)) st (requestRefusal st s q h) 0 0 (requested st s q h) (λ z. record { n = refl; stock = refl; table = refl }) (same st)
-call-same st (Call.Up s j) =
-    answered-as (λ a. Same-table st (a .state)) st (upRefusal st s j) 0 0 (delivered st s j (st .up s j)) (λ z. delivered-same st s j (st .up s j)) (same st)
-call-same st (Call.Down s j) =
-    answered-as (λ a. Same-table st (a .state)) st (downRefusal st s j) (enters (takenAt st s j)) 0 (received st s j (st .down s j)) (λ z. received-same st s j (st .down s j)) (same st)
-call-same st (Call.Release s) =
-    answered-as (λ a. Same-table st (a .state)) st (releaseRefusal st s) 0 (held (st .phase s)) (released st s (st .phase s)) (λ z. released-same st s (st .phase s)) (same st)
+unfolding requested
+call-same st c =
+    each-call (λ a. Same-table st (a .state)) st
+    (record {
+      is-refused = λ r. same st;
+      by-request = λ s q h r. record { n = refl; stock = refl; table = refl };
+      by-up = λ s j d. delivered-same st s j (st .up s j);
+      by-down = λ s j d. received-same st s j (st .down s j);
+      by-release = λ s r. released-same st s (st .phase s);
+    })
+    c
 
 pub calls-same : (st : State) (calls : List Call) → Same-table st (after st calls)
 unfolding after

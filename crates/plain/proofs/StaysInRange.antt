@@ -1,42 +1,44 @@
 -- A fresh state is in range, and a call keeps a state in range.
 -- Assumes nothing.
 use mathlib.Core.Bool.{Bool, true, false, cond, _&&_}
-use mathlib.Core.List.{List, [], _∷_}
+use mathlib.Core.List.{List, _∷_}
 use mathlib.Core.Logic.{by-cases, ⊎-elim}
 use mathlib.Core.Path.{_≡_, refl}
 use Prim.Native.Nat.{ℕ, suc, _<_}
-use native.Mathlib.Decide.{ℕ-discrete, decLt}
+use native.Mathlib.Decide.{ℕ-discrete}
 use native.Mathlib.Omega.{arith}
 use lib.Dec.{eqb, leb, ltb}
 use lib.ListN.{length}
-use borrow.Author.Tests.{eq-eqb, ne-eqb, le-leb, lt-ltb, le-ltb, ltb-true}
+use borrow.Author.Tests.{eq-eqb, ne-eqb, le-leb, lt-ltb, ltb-true}
 use Rattle.lists.specs.At.{at, at2}
 use Rattle.lists.specs.Search.{someBelow}
 use Rattle.lists.proofs.Changed.{at-all, at2-all}
 use Rattle.lists.proofs.Searches.{every-true, some-never}
 use Rattle.lists.proofs.Tests.{known, and-left, and-right, and-both, or-none}
 use Rattle.stations.specs.Member.{member}
-use Rattle.stations.specs.Sets.{places, lowestFrom}
+use Rattle.stations.specs.Sets.{lowestFrom}
 use Rattle.quorum.specs.Family.{quorum}
 use Rattle.quorum.specs.Limits.{brokenLimit, upTo}
 use Rattle.plain.specs.Arbiter.{unitsIn}
-use Rattle.plain.specs.Down.{Taken, onward, taken, takenAt, enters, downPasses, downRefusal, receivedAs, received, down}
+use Rattle.plain.specs.Down.{Taken, onward, taken, takenAt, downPasses, receivedAs, received}
 use Rattle.plain.specs.InRange.{goesUp, upLane, downLane, phaseIn, arbiterIn, inRange}
 use Rattle.plain.specs.Lanes.{downPlaces, linePlaces, passes, sent}
-use Rattle.plain.specs.Release.{releasing, releasePasses, releaseRefusal, released, held, release}
-use Rattle.plain.specs.Request.{lowest, requestRefusal, requested, request}
+use Rattle.plain.specs.Release.{releasing, releasePasses, released}
+use Rattle.plain.specs.Request.{lowest, requested}
 use Rattle.plain.specs.Run.{Call, call, after}
 use Rattle.plain.specs.State.{State, fresh}
-use Rattle.plain.specs.Up.{arrivedAt, servedAt, granting, upPasses, upRefusal, delivered, up}
+use Rattle.plain.specs.Up.{arrivedAt, servedAt, granting, upPasses, delivered}
 use Rattle.plain.specs.declared.Message.the-variants.{Request, Release}
 use Rattle.plain.specs.declared.Phase.{Phase}
 use Rattle.plain.specs.declared.Phase.the-variants.{Idle, Collecting, Holding}
-use Rattle.plain.proofs.Approaching.{first-member, next-member}
+use Rattle.plain.proofs.Approaching.{onward-as, first-member}
 use Rattle.plain.proofs.ArbitersInRange.{arbiter-facts, facts-arbiter, arrived-in, served-in}
+use Rattle.plain.proofs.Calls.{each-call}
 use Rattle.plain.proofs.LanesInRange.{up-sent, up-taken, up-oldest, down-granted, down-taken}
-use Rattle.plain.proofs.Passed.{answered-as, Requestable, requestable, Delivers, delivers, Releases, releases}
+use Rattle.plain.proofs.Passed.{Requestable, Delivers, Releases}
 use Rattle.plain.proofs.Range.{Ranged, ranged, in-range}
 use Rattle.plain.proofs.Releasing.{releasing-member, releasing-other}
+use Rattle.plain.proofs.Runs.{after-keeps}
 
 fresh-ranged : (n k : ℕ) (table : List ℕ) → brokenLimit n k table ≡ 0 → Ranged (fresh n k table)
 unfolding fresh phaseIn arbiterIn upLane downLane
@@ -63,7 +65,7 @@ request-ranged st s q h r =
       arbiters = g .arbiters;
       ups = λ t l j b. at2-all (λ lane. upLane (st .stock) lane ≡ true) (st .up) s (lowest st q) _
           (up-sent (st .stock) (st .up s (lowest st q)) (Request h) (g .ups s (r .station) (lowest st q) (low .station)) (r .units) (r .room))
-          t j (g .ups s (r .station) j b) (g .ups t l j b);
+          t j (λ o. g .ups t l j b);
       downs = g .downs;
     }
 
@@ -101,7 +103,7 @@ module _ (st : State) (s j : ℕ) (d : Delivers st s j (st .up s j) (upPasses st
         limits = g .limits;
         phases = g .phases;
         arbiters = λ x b. at-all (λ a. arbiterIn (st .n) (st .stock) a ≡ true) (st .arbiter) j (servedAt st s j (d .message) .arbiter) arbiter-in x (g .arbiters x b);
-        ups = λ t l x b. at2-all (λ z. upLane (st .stock) z ≡ true) (st .up) s j (d .rest) (up-taken (st .stock) (d .rest) (d .message) lane) t x (g .ups s (d .station) x b) (g .ups t l x b);
+        ups = λ t l x b. at2-all (λ z. upLane (st .stock) z ≡ true) (st .up) s j (d .rest) (up-taken (st .stock) (d .rest) (d .message) lane) t x (λ o. g .ups t l x b);
         downs = granting-in;
       })
 
@@ -114,13 +116,10 @@ takenIn n k table (Taken.holds q h) = phaseIn n k table (Holding q h)
 takenIn n k table Taken.drops = true
 
 onward-in : (n k : ℕ) (table : List ℕ) → brokenLimit n k table ≡ 0 → (q h j : ℕ) → ltb q (length table) ≡ true → upTo k h ≡ true → takenIn n k table (onward table q h j) ≡ true
-unfolding takenIn onward phaseIn
+unfolding takenIn phaseIn
 onward-in n k table kept q h j exists units =
-    by-cases (decLt (lowestFrom (quorum table q) (suc j)) places)
-    (λ (l : lowestFrom (quorum table q) (suc j) < places).
-    let next = next-member n k table kept q (ltb-true q (length table) exists) (suc j) l in
-    rw (lt-ltb (lowestFrom (quorum table q) (suc j)) places l) (and-both exists (and-both units (lt-ltb (lowestFrom (quorum table q) (suc j)) n (next .station)))))
-    (λ (l : ¬ (lowestFrom (quorum table q) (suc j) < places)). rw (le-ltb (lowestFrom (quorum table q) (suc j)) places (omega arith)) (and-both exists units))
+    onward-as n k table kept q (ltb-true q (length table) exists) (λ t. takenIn n k table t ≡ true) h j
+    (λ low. and-both exists (and-both units (lt-ltb (lowestFrom (quorum table q) (suc j)) n (low .station)))) (λ l none. and-both exists units)
 
 taken-in : (n k : ℕ) (table : List ℕ) → brokenLimit n k table ≡ 0 → (j : ℕ) (p : Phase) → phaseIn n k table p ≡ true → takenIn n k table (taken table j p) ≡ true
 unfolding takenIn taken phaseIn
@@ -145,7 +144,7 @@ module _ (st : State) (s j : ℕ) (d : Delivers st s j (st .down s j) (λ m. dow
   rest-in : (t : ℕ) → t < st .n → (x : ℕ) → x < st .n → downLane (at2 (st .down) s j (d .rest) t x) ≡ true
   rest-in t l x b =
       let downs = in-range-before .downs in
-      at2-all (λ z. downLane z ≡ true) (st .down) s j (d .rest) (down-taken (d .rest) (d .message) (rw (d .taken) at (downs s (d .station) j (d .arbiter)))) t x (downs s (d .station) x b) (downs t l x b)
+      at2-all (λ z. downLane z ≡ true) (st .down) s j (d .rest) (down-taken (d .rest) (d .message) (rw (d .taken) at (downs s (d .station) j (d .arbiter)))) t x (λ o. downs t l x b)
 
   taken-ranged : (t : Taken) → takenIn (st .n) (st .stock) (st .table) t ≡ true → downPasses st s t ≡ false → Ranged (receivedAs st s j (d .rest) t)
   unfolding receivedAs takenIn phaseIn goesUp
@@ -159,7 +158,7 @@ module _ (st : State) (s j : ℕ) (d : Delivers st s j (st .down s j) (λ m. dow
         arbiters = b .arbiters;
         ups = λ t l x c. at2-all (λ z. upLane (st .stock) z ≡ true) (st .up) s m (sent (st .up s m) (Request h))
             (up-sent (st .stock) (st .up s m) (Request h) (b .ups s (d .station) m below) (and-left (upTo (st .stock) h) (ltb m (st .n)) units) room)
-            t x (b .ups s (d .station) x c) (b .ups t l x c);
+            t x (λ o. b .ups t l x c);
         downs = rest-in;
       }
   taken-ranged (Taken.holds q h) e room =
@@ -221,22 +220,17 @@ fresh-in-range n k table kept = in-range (fresh n k table) (fresh-ranged n k tab
 
 -- a call, with any numbers as arguments, keeps a state in range
 pub call-in-range : (st : State) (c : Call) → inRange st ≡ true → inRange (call st c .state) ≡ true
-unfolding call request up down release
-call-in-range st (Call.Request s q h) e =
-    answered-as (λ a. inRange (a .state) ≡ true) st (requestRefusal st s q h) 0 0 (requested st s q h)
-    (λ z. in-range (requested st s q h) (request-ranged st s q h (requestable st s q h z))) e
-call-in-range st (Call.Up s j) e =
-    answered-as (λ a. inRange (a .state) ≡ true) st (upRefusal st s j) 0 0 (delivered st s j (st .up s j))
-    (λ z. in-range (delivered st s j (st .up s j)) (up-ranged st s j (delivers st s j _ _ z))) e
-call-in-range st (Call.Down s j) e =
-    answered-as (λ a. inRange (a .state) ≡ true) st (downRefusal st s j) (enters (takenAt st s j)) 0 (received st s j (st .down s j))
-    (λ z. in-range (received st s j (st .down s j)) (down-ranged st s j (delivers st s j _ _ z))) e
-call-in-range st (Call.Release s) e =
-    answered-as (λ a. inRange (a .state) ≡ true) st (releaseRefusal st s) 0 (held (st .phase s)) (released st s (st .phase s))
-    (λ z. in-range (released st s (st .phase s)) (release-ranged st s (releases st s z))) e
+call-in-range st c e =
+    each-call (λ a. inRange (a .state) ≡ true) st
+    (record {
+      is-refused = λ r. e;
+      by-request = λ s q h r. in-range (requested st s q h) (request-ranged st s q h r);
+      by-up = λ s j d. in-range (delivered st s j (st .up s j)) (up-ranged st s j d);
+      by-down = λ s j d. in-range (received st s j (st .down s j)) (down-ranged st s j d);
+      by-release = λ s r. in-range (released st s (st .phase s)) (release-ranged st s r);
+    })
+    c
 
 -- and so does a list of calls
 pub calls-in-range : (st : State) (calls : List Call) → inRange st ≡ true → inRange (after st calls) ≡ true
-unfolding after
-calls-in-range st [] e = e
-calls-in-range st (c ∷ calls) e = calls-in-range (call st c .state) calls (call-in-range st c e)
+calls-in-range st calls e = after-keeps (λ x. inRange x ≡ true) call-in-range st calls e

@@ -22,6 +22,6 @@ module _ {A : Type 0} where
   abbrev pub passes : ℕ → List A → Bool
   passes limit l = ltb limit (length l)
 
-  -- "oldest first": what is sent last stands last
+  -- "oldest first": a new message stands last
   abbrev pub sent : List A → A → List A
   sent lane m = lane ++ (m ∷ [])

@@ -1,0 +1,31 @@
+-- The list that one table gives: n = 2, k = 5, quorums 1 2 (P4). Two stations, each its own arbiter, come to hold 6 units.
+-- Assumes nothing.
+use mathlib.Core.List.{[], _∷_, map}
+use mathlib.Core.Path.{_≡_, refl}
+use Rattle.lists.specs.At.{at}
+use Rattle.lists.specs.Counting.{total}
+use Rattle.stations.specs.Member.{member}
+use Rattle.stations.specs.Sets.{lowestAmong, lowestFrom}
+use Rattle.quorum.specs.Family.{commonWithin, families}
+use Rattle.quorum.specs.FirstFamily.{firstFamily}
+use Rattle.quorum.specs.Limits.{brokenLimit}
+use Rattle.quorum.specs.Width.{emptied, leastSize, width}
+use Rattle.plain.specs.Answer.{answered}
+use Rattle.plain.specs.Arbiter.{arrived, fits, serve, unitsIn}
+use Rattle.plain.specs.Delivery.{laneRefusal, deliveryRefusal}
+use Rattle.plain.specs.Down.{onward, taken, receivedAs, received, down}
+use Rattle.plain.specs.Exceeding.{visits, collects, exceeds, exceeding}
+use Rattle.plain.specs.InRange.{goesUp, goesDown, upLane, downLane, phaseIn, entryIn, arbiterIn, inRange}
+use Rattle.plain.specs.Request.{requestRefusal, requested, request}
+use Rattle.plain.specs.Run.{Call, call, run}
+use Rattle.plain.specs.State.{fresh}
+use Rattle.plain.specs.Up.{granting, delivered, up}
+use Rattle.plain.proofs.HandMade.{said, done, enters}
+
+pub six-units : exceeding 2 5 (1 ∷ (2 ∷ [])) ≡ Call.Request 0 0 1 ∷ (Call.Up 0 0 ∷ (Call.Down 0 0 ∷ (Call.Request 1 1 5 ∷ (Call.Up 1 1 ∷ (Call.Down 1 1 ∷ [])))))
+unfolding commonWithin families firstFamily emptied leastSize width member visits collects exceeds exceeding
+six-units = refl
+
+pub six-entered : map said (run (fresh 2 5 (1 ∷ (2 ∷ []))) (exceeding 2 5 (1 ∷ (2 ∷ [])))) ≡ done ∷ (done ∷ (enters 1 ∷ (done ∷ (done ∷ (enters 5 ∷ [])))))
+unfolding commonWithin families firstFamily emptied leastSize width member visits collects exceeds exceeding brokenLimit lowestAmong lowestFrom at total fresh answered arrived fits serve unitsIn onward taken receivedAs received down goesUp goesDown upLane downLane phaseIn entryIn arbiterIn inRange requestRefusal requested request call run granting laneRefusal deliveryRefusal delivered up
+six-entered = refl

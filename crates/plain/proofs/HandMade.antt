@@ -1,0 +1,114 @@
+-- States made by hand, and what examples show of answers and states.
+-- Assumes nothing.
+use mathlib.Core.List.{List}
+use Prim.Native.Nat.{ℕ}
+use Rattle.lists.specs.At.{at, at2}
+use Rattle.plain.specs.Answer.{Answer}
+use Rattle.plain.specs.State.{State}
+use Rattle.plain.specs.declared.Entry.{Entry}
+use Rattle.plain.specs.declared.Message.{Message}
+use Rattle.plain.specs.declared.Phase.{Phase}
+
+-- ---- a state, but with something else in one place
+
+abbrev pub with-phase : ℕ → Phase → State → State
+with-phase s p st =
+    record {
+      n = st .n;
+      stock = st .stock;
+      table = st .table;
+      phase = at (st .phase) s p;
+      arbiter = st .arbiter;
+      up = st .up;
+      down = st .down;
+    }
+
+abbrev pub with-line : ℕ → List Entry → State → State
+with-line j line st =
+    record {
+      n = st .n;
+      stock = st .stock;
+      table = st .table;
+      phase = st .phase;
+      arbiter = at (st .arbiter) j (record { granted = st .arbiter j .granted; line = line });
+      up = st .up;
+      down = st .down;
+    }
+
+abbrev pub with-grant : ℕ → ℕ → ℕ → State → State
+with-grant j s h st =
+    record {
+      n = st .n;
+      stock = st .stock;
+      table = st .table;
+      phase = st .phase;
+      arbiter = at (st .arbiter) j (record { granted = at (st .arbiter j .granted) s h; line = st .arbiter j .line });
+      up = st .up;
+      down = st .down;
+    }
+
+abbrev pub with-up : ℕ → ℕ → List Message → State → State
+with-up s j lane st =
+    record {
+      n = st .n;
+      stock = st .stock;
+      table = st .table;
+      phase = st .phase;
+      arbiter = st .arbiter;
+      up = at2 (st .up) s j lane;
+      down = st .down;
+    }
+
+abbrev pub with-down : ℕ → ℕ → List Message → State → State
+with-down s j lane st =
+    record {
+      n = st .n;
+      stock = st .stock;
+      table = st .table;
+      phase = st .phase;
+      arbiter = st .arbiter;
+      up = st .up;
+      down = at2 (st .down) s j lane;
+    }
+
+-- ---- what is shown
+
+-- what a call answers, but for the state
+pub data Call-says : Type 0 where
+  says : (refusal entered left : ℕ) → Call-says
+
+abbrev pub said : Answer → Call-says
+said a = Call-says.says (a .refusal) (a .entered) (a .left)
+
+-- a call that is not refused, enters nothing and leaves nothing
+abbrev pub done : Call-says
+done = Call-says.says 0 0 0
+
+abbrev pub enters : ℕ → Call-says
+enters h = Call-says.says 0 h 0
+
+abbrev pub leaves : ℕ → Call-says
+leaves h = Call-says.says 0 0 h
+
+abbrev pub refuses : ℕ → Call-says
+refuses r = Call-says.says r 0 0
+
+-- of an answer, and of the state after it: what station s does; of s at arbiter j the units granted, the lane up and the lane down; the line of j
+pub record Seen : Type 0 where
+  pub answer : Call-says
+  pub phase : Phase
+  pub granted : ℕ
+  pub line : List Entry
+  pub up : List Message
+  pub down : List Message
+
+abbrev pub seen : ℕ → ℕ → Answer → Seen
+seen s j a =
+    record {
+      answer = said a;
+      phase = a .state .phase s;
+      granted = a .state .arbiter j .granted s;
+      line = a .state .arbiter j .line;
+      up = a .state .up s j;
+      down = a .state .down s j;
+    }
