@@ -58,32 +58,57 @@ first-enters = Call.Request 0 0 1 ∷ Call.Up 0 0 ∷ Call.Down 0 0 ∷ Call.Up 
 abbrev second-waits : List Call
 second-waits = Call.Request 1 2 1 ∷ Call.Up 1 1 ∷ Call.Down 1 1 ∷ []
 
+-- Left the definitions, right what document 01 says. (It says nothing of even; an answer is shown whole.)
 pub marked :
     _≡_ {A = List Says}
+    -- P1
     (check 1 1 (1 ∷ [])
+    -- P2
     ∷ check 3 1 three
+    -- P3
     ∷ check 3 2 three
+    -- P4
     ∷ check 2 5 (1 ∷ 2 ∷ [])
+    -- P5
     ∷ check 4 2 four
+    -- P6
     ∷ check 4 3 four
+    -- P7
     ∷ check 4 2 (3 ∷ 12 ∷ 5 ∷ 10 ∷ [])
+    -- P8
     ∷ check 2 1 (1 ∷ 3 ∷ [])
+    -- P9
     ∷ check 2 1 (1 ∷ 2 ∷ 3 ∷ [])
+    -- P10
     ∷ Says.quorum (cubeQuorum 3 1 0)
+    -- P11
     ∷ from-fresh 3 1 three first-enters
+    -- P12
     ∷ from-fresh 3 1 three (first-enters ++ second-waits)
     ∷ [])
+    -- P1
     (Says.table 0 0 1 []
+    -- P2
     ∷ Says.table 0 3 1 []
+    -- P3
     ∷ Says.table 6 3 0 (0 ∷ 1 ∷ 2 ∷ [])
+    -- P4
     ∷ Says.table 6 2 0 (0 ∷ 1 ∷ [])
+    -- P5
     ∷ Says.table 0 4 1 []
+    -- P6
     ∷ Says.table 6 4 0 (0 ∷ 1 ∷ 2 ∷ 3 ∷ [])
+    -- P7
     ∷ Says.table 6 2 0 (0 ∷ 1 ∷ [])
+    -- P8
     ∷ Says.table 7 0 0 []
+    -- P9
     ∷ Says.table 6 2 0 (0 ∷ 1 ∷ [])
+    -- P10
     ∷ Says.quorum 79
+    -- P11
     ∷ Says.calls (done ∷ done ∷ done ∷ done ∷ enters 1 ∷ [])
+    -- P12
     ∷ Says.calls (done ∷ done ∷ done ∷ done ∷ enters 1 ∷ done ∷ done ∷ refuses 13 ∷ [])
     ∷ [])
 unfolding answer answerTo refusal nested even belongs width emptied leastSize firstFamily lacksCommon commonWithin families brokenLimit member contains cubeQuorum setOf agree coordinate lowestAmong lowestFrom at total fresh answered arrived fits serve unitsIn onward taken receivedAs received down goesUp goesDown upLane downLane phaseIn entryIn arbiterIn inRange releasing releaseRefusal released release requestRefusal requested request call run granting laneRefusal deliveryRefusal delivered up

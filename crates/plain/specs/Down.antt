@@ -1,4 +1,4 @@
--- Down.
+-- The call Down: a message of an arbiter reaches a station.
 use mathlib.Core.Bool.{Bool, false, cond}
 use mathlib.Core.List.{List, [], _∷_}
 use Prim.Native.Nat.{ℕ, suc}
@@ -79,5 +79,6 @@ unfoldable pub received : State → ℕ → ℕ → List Message → State
 received st s j [] = st
 received st s j (m ∷ rest) = receivedAs st s j rest (takenAt st s j)
 
+-- Down(s, j)
 unfoldable pub down : State → ℕ → ℕ → Answer
 down st s j = answered st (downRefusal st s j) (enters (takenAt st s j)) 0 (received st s j (st .down s j))

@@ -1,4 +1,4 @@
--- Release.
+-- The call Release: a station gives its units back.
 use mathlib.Core.Bool.{Bool, cond, not, _&&_}
 use mathlib.Core.List.{List}
 use Prim.Native.Nat.{ℕ}
@@ -56,5 +56,6 @@ held Idle = 0
 held (Collecting q h m) = 0
 held (Holding q h) = h
 
+-- Release(s)
 unfoldable pub release : State → ℕ → Answer
 release st s = answered st (releaseRefusal st s) 0 (held (st .phase s)) (released st s (st .phase s))

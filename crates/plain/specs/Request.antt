@@ -1,4 +1,4 @@
--- Request.
+-- The call Request: a station asks for units by a quorum.
 use mathlib.Core.Bool.{Bool, true, false, cond, not}
 use Prim.Native.Nat.{ℕ}
 use lib.Dec.{leb}
@@ -47,5 +47,6 @@ requested st s q h =
       down = st .down;
     }
 
+-- Request(s, q, h)
 unfoldable pub request : State → ℕ → ℕ → ℕ → Answer
 request st s q h = answered st (requestRefusal st s q h) 0 0 (requested st s q h)

@@ -16,6 +16,7 @@ pub data Call : Type 0 where
   Down : (station arbiter : ℕ) → Call
   Release : (station : ℕ) → Call
 
+-- the answer to one of them
 unfoldable pub call : State → Call → Answer
 call st (Call.Request s q h) = request st s q h
 call st (Call.Up s j) = up st s j

@@ -1,4 +1,4 @@
--- Up.
+-- The call Up: a message of a station reaches an arbiter.
 use mathlib.Core.Bool.{Bool, cond, _||_}
 use mathlib.Core.List.{List, [], _∷_, _++_}
 use Prim.Native.Nat.{ℕ}
@@ -49,5 +49,6 @@ delivered st s j (m ∷ rest) =
       down = granting st j (servedAt st s j m .grants);
     }
 
+-- Up(s, j)
 unfoldable pub up : State → ℕ → ℕ → Answer
 up st s j = answered st (upRefusal st s j) 0 0 (delivered st s j (st .up s j))
