@@ -27,6 +27,10 @@ pub record Lowest-member (n q i m : ℕ) : Type 0 where
   pub belongs : member q m ≡ true
   pub before : (j : ℕ) → i ≤ j → j < m → member q j ≡ false
 
+-- every station has a place in a set
+pub station-place : (n k : ℕ) (table : List ℕ) → brokenLimit n k table ≡ 0 → n < places
+station-place n k table kept = omega (arith, limits-kept n k table kept .stations .1)
+
 module _ (n k : ℕ) (table : List ℕ) (kept : brokenLimit n k table ≡ 0) (p : ℕ) (exists : p < length table) where
   limits : Limits n k table
   limits = limits-kept n k table kept
@@ -51,7 +55,7 @@ module _ (n k : ℕ) (table : List ℕ) (kept : brokenLimit n k table ≡ 0) (p 
   no-member i h j from =
       let l = lowest-from (quorum table p) i in
       by-cases (decLt j places) (λ (b : j < places). l .before j from (omega arith))
-      (λ (b : ¬ (j < places)). member-below n (quorum table p) j small (omega (arith, limits .stations .1)))
+      (λ (b : ¬ (j < places)). member-below n (quorum table p) j small (omega (arith, station-place n k table kept)))
 
   -- no quorum is empty, so there is a lowest member of all
   pub first-member : Lowest-member n (quorum table p) 0 (lowestFrom (quorum table p) 0)

@@ -3,64 +3,60 @@
 use mathlib.Core.Bool.{true, false}
 use mathlib.Core.List.{List, [], _∷_}
 use mathlib.Core.Logic.{⊎-elim}
-use mathlib.Core.Path.{_≡_, refl, ap}
+use mathlib.Core.Path.{_≡_, refl}
 use Prim.Native.Nat.{ℕ, _≤_, _<_}
 use native.Mathlib.Omega.{arith}
 use lib.Dec.{leb, ltb}
-use lib.ListN.{length, length-append}
-use borrow.Author.Tests.{le-leb, leb-true, ltb-false, lt-ltb}
+use borrow.Author.Tests.{le-leb, leb-true, lt-ltb}
 use Rattle.lists.specs.At.{at}
 use Rattle.lists.specs.Search.{all, everyBelow}
 use Rattle.lists.proofs.Changed.{at-all}
-use Rattle.lists.proofs.Searches.{every-true, every-at, all-append, all-right}
+use Rattle.lists.proofs.Searches.{every-true, every-at}
 use Rattle.lists.proofs.Tests.{known, and-left, and-right, and-both}
 use Rattle.quorum.specs.Limits.{upTo}
 use Rattle.plain.specs.Arbiter.{arrived, fits, serve, served}
 use Rattle.plain.specs.InRange.{goesUp, entryIn, arbiterIn}
-use Rattle.plain.specs.Lanes.{linePlaces, passes}
+use Rattle.plain.specs.Lanes.{linePlaces, keeps, passes}
 use Rattle.plain.specs.State.{Arbiter}
 use Rattle.plain.specs.declared.Entry.{Entry}
 use Rattle.plain.specs.declared.Message.{Message}
 use Rattle.plain.specs.declared.Message.the-variants.{Request, Release, Grant}
+use Rattle.plain.proofs.LanesInRange.{keeps-more, keeps-rest, keeps-all}
 use Rattle.plain.proofs.Serving.{serve-splits}
 
 -- in range, as facts
 pub record Arbiter-facts (n k : ℕ) (a : Arbiter) : Type 0 where
   pub grants : (s : ℕ) → s < n → a .granted s ≤ k
-  pub short : length (a .line) ≤ linePlaces
-  pub entries : all (entryIn n k) (a .line) ≡ true
+  pub line : keeps linePlaces (entryIn n k) (a .line) ≡ true
 
 module _ (n k : ℕ) where
   pub arbiter-facts : (a : Arbiter) → arbiterIn n k a ≡ true → Arbiter-facts n k a
   unfolding arbiterIn
   arbiter-facts a e =
-      let grants = and-left (everyBelow (λ s. leb (a .granted s) k) n) _ e in
-      let line = and-right (everyBelow (λ s. leb (a .granted s) k) n) _ e in
       record {
-        grants = λ s l. leb-true (a .granted s) k (every-at (λ s. leb (a .granted s) k) n grants s l);
-        short = leb-true (length (a .line)) linePlaces (and-left (leb (length (a .line)) linePlaces) (all (entryIn n k) (a .line)) line);
-        entries = and-right (leb (length (a .line)) linePlaces) (all (entryIn n k) (a .line)) line;
+        grants = λ s l.
+            leb-true (a .granted s) k
+            (every-at (λ s. leb (a .granted s) k) n (and-left (everyBelow (λ s. leb (a .granted s) k) n) (keeps linePlaces (entryIn n k) (a .line)) e) s l);
+        line = and-right (everyBelow (λ s. leb (a .granted s) k) n) (keeps linePlaces (entryIn n k) (a .line)) e;
       }
 
   pub facts-arbiter : (a : Arbiter) → Arbiter-facts n k a → arbiterIn n k a ≡ true
   unfolding arbiterIn
   facts-arbiter a f =
       and-both (every-true (λ s. leb (a .granted s) k) n (λ s l. le-leb (a .granted s) k (f .grants s l)))
-      (and-both (le-leb (length (a .line)) linePlaces (f .short)) (f .entries))
+      (f .line)
 
   pub arrived-in : (m : Message) (s : ℕ) (a : Arbiter) → s < n → goesUp k m ≡ true → passes linePlaces (arrived m s a .line) ≡ false → Arbiter-facts n k a → Arbiter-facts n k (arrived m s a)
   unfolding arrived goesUp entryIn
   arrived-in (Request h) s a l u room f =
       record {
         grants = f .grants;
-        short = ltb-false linePlaces (length (arrived (Request h) s a .line)) room;
-        entries = all-append (entryIn n k) (a .line) (record { station = s; units = h } ∷ []) (f .entries) (and-both (and-both (lt-ltb s n l) u) refl);
+        line = keeps-more linePlaces (entryIn n k) (a .line) (record { station = s; units = h } ∷ []) (f .line) (and-both (and-both (lt-ltb s n l) u) refl) room;
       }
   arrived-in Release s a l u room f =
       record {
         grants = λ t b. at-all (λ g. g ≤ k) (a .granted) s _ (omega (arith, f .grants s l)) t (f .grants t b);
-        short = f .short;
-        entries = f .entries;
+        line = f .line;
       }
   arrived-in Grant s a l u room f = f
 
@@ -77,10 +73,7 @@ module _ (n k : ℕ) where
 
   pub served-in : (a : Arbiter) → Arbiter-facts n k a → Arbiter-facts n k (served n k a .arbiter)
   served-in a f =
-      let splits = serve-splits n k (a .granted) (a .line) in
-      let lengths = length-append (served n k a .grants) (served n k a .arbiter .line) in
       record {
-        grants = serve-in (a .granted) (a .line) (f .grants) (f .entries);
-        short = omega (arith, f .short, ap length splits, lengths);
-        entries = all-right (entryIn n k) (served n k a .grants) (served n k a .arbiter .line) (rw splits (f .entries));
+        grants = serve-in (a .granted) (a .line) (f .grants) (keeps-all linePlaces (entryIn n k) (a .line) (f .line));
+        line = keeps-rest linePlaces (entryIn n k) (served n k a .grants) (served n k a .arbiter .line) (rw (serve-splits n k (a .granted) (a .line)) (f .line));
       }

@@ -17,7 +17,6 @@ use Rattle.stations.specs.Member.{member}
 use Rattle.stations.specs.Sets.{places, lowestFrom}
 use Rattle.quorum.specs.Family.{quorum}
 use Rattle.quorum.specs.Limits.{upTo}
-use Rattle.quorum.proofs.LimitLaws.{limits-kept}
 use Rattle.plain.specs.Down.{receivedAs}
 use Rattle.plain.specs.Exceeding.{visits, collects}
 use Rattle.plain.specs.Release.{held}
@@ -26,7 +25,7 @@ use Rattle.plain.specs.Run.{Call, call, after}
 use Rattle.plain.specs.State.{State}
 use Rattle.plain.specs.declared.Phase.{Phase}
 use Rattle.plain.specs.declared.Phase.the-variants.{Holding}
-use Rattle.plain.proofs.Approaching.{next-member}
+use Rattle.plain.proofs.Approaching.{station-place, next-member}
 use Rattle.plain.proofs.Held.{heldBy, held-at}
 use Rattle.plain.proofs.Range.{ranged}
 use Rattle.plain.proofs.SameTable.{Same-table, calls-same}
@@ -63,7 +62,7 @@ module _ (s p h : ℕ) (load : ℕ → ℕ) (was : ℕ → Phase) where
       (all-visited more (suc i) (visited st s p h i) v′ (omega arith) exists number (λ j l. room j (omega arith))))
       (λ (o : member (quorum (st .table) p) i ≡ false).
       rw (visits-other st (quorum (st .table) p) s i more o)
-      (all-visited more (suc i) st (pass-by st was s p h i load v (omega (arith, limits-kept (st .n) (st .stock) (st .table) (ranged st (v .range) .limits) .stations .1)) o) (omega arith) exists number (λ j l. room j (omega arith))))
+      (all-visited more (suc i) st (pass-by st was s p h i load v (omega (arith, station-place (st .n) (st .stock) (st .table) (ranged st (v .range) .limits))) o) (omega arith) exists number (λ j l. room j (omega arith))))
       (known (member (quorum (st .table) p) i))
 
 -- what comes of it
@@ -116,7 +115,7 @@ module _ (st : State) (s p h : ℕ) (load : ℕ → ℕ) (calm : Calm st s load)
         calm = record {
           range = end .range;
           idle = λ t l. end .others t (λ e. omega arith) ∙ calm .idle t (omega arith);
-          ups = λ t j l. end .ups t j l (λ e x. no-next (omega (arith, limits-kept (next .n) (next .stock) (next .table) (ranged next (end .range) .limits) .stations .1)));
+          ups = λ t j l. end .ups t j l (λ e x. no-next (omega (arith, station-place (next .n) (next .stock) (next .table) (ranged next (end .range) .limits))));
           downs = end .downs;
           lines = end .lines;
           loads = λ j. rw (same .table) at (end .loads j);

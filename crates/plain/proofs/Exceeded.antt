@@ -6,10 +6,9 @@ use mathlib.Core.Logic.{_⊎_, inl, inr, ⊎-elim}
 use mathlib.Core.Path.{_≡_, refl, sym, ap, _∙_}
 use Prim.Native.Nat.{ℕ, suc, _+_, _-_, _≤_, _<_}
 use native.Mathlib.Omega.{arith}
-use lib.Dec.{leb}
 use lib.ListN.{length}
-use borrow.Author.Tests.{eqb-true, leb-true, le-leb}
-use Rattle.lists.proofs.Tests.{known, and-left, and-right, and-both}
+use borrow.Author.Tests.{eqb-true, le-leb}
+use Rattle.lists.proofs.Tests.{known, and-both}
 use Rattle.lists.proofs.Totals.{total-none}
 use Rattle.stations.specs.Member.{member}
 use Rattle.stations.specs.Sets.{everyone}
@@ -20,7 +19,7 @@ use Rattle.quorum.specs.Limits.{brokenLimit}
 use Rattle.quorum.specs.Width.{width, lacksCommon}
 use Rattle.quorum.proofs.CommonMember.{common-not-empty}
 use Rattle.quorum.proofs.Families.{First}
-use Rattle.quorum.proofs.Lacking.{first-family-is}
+use Rattle.quorum.proofs.Lacking.{lacks-width, first-family-is}
 use Rattle.quorum.proofs.LimitLaws.{limits-kept}
 use Rattle.quorum.proofs.Sorted.{family-numbers}
 use Rattle.quorum.proofs.Widths.{width-le-n}
@@ -108,14 +107,6 @@ module _ (n k : ℕ) (table : List ℕ) (kept : brokenLimit n k table ≡ 0) (la
   family : First (emptyWithin table (everyone n)) (length table) 0 (width n table) (firstFamily n table)
   family = first-family-is n k table kept lacks
 
-  two : 2 ≤ width n table
-  unfolding lacksCommon
-  two = leb-true 2 (width n table) (and-left (leb 2 (width n table)) (leb (width n table) (k + 1)) lacks)
-
-  few : width n table ≤ k + 1
-  unfolding lacksCommon
-  few = leb-true (width n table) (k + 1) (and-right (leb 2 (width n table)) (leb (width n table) (k + 1)) lacks)
-
   -- no station is in all its quorums
   no-common : (j : ℕ) → j < n → InAll table j (firstFamily n table) → ⊥
   no-common j l a =
@@ -127,13 +118,13 @@ module _ (n k : ℕ) (table : List ℕ) (kept : brokenLimit n k table ≡ 0) (la
     where
       go : (f : List ℕ) → firstFamily n table ≡ f
           → heldBy (after (fresh n k table) (exceeds n table 0 (k + 1) f) .phase) (after (fresh n k table) (exceeds n table 0 (k + 1) f) .n) ≡ k + 1
-      go [] e = absurd (omega (arith, two, family .size, ap length e))
+      go [] e = absurd (omega (arith, lacks-width n k table lacks .0, family .size, ap length e))
       go (p ∷ f) e =
           let size : suc (length f) ≡ width n table = sym (ap length e) ∙ family .size in
           let small = width-le-n n table (limits-kept n k table kept .stations .0) in
           let held = all-taken f p 0 (k + 1) (fresh n k table) (λ j. 0) n table refl refl (fresh-calm n k table kept)
           (λ j l. inl ((λ a. no-common j l (rw e a)), omega arith))
-          (rw e at (family-numbers (family .family))) (omega arith) (omega (arith, few)) in
+          (rw e at (family-numbers (family .family))) (omega arith) (omega (arith, lacks-width n k table lacks .1)) in
           omega (arith, held, total-none (λ s. 0) n (λ s l. refl))
 
   -- "for every table refused for lack of a common member the plain machine has a list that reaches k + 1": for every n, k and table that

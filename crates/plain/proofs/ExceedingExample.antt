@@ -15,7 +15,8 @@ use Rattle.plain.specs.Arbiter.{arrived, fits, serve, unitsIn}
 use Rattle.plain.specs.Delivery.{laneRefusal, deliveryRefusal}
 use Rattle.plain.specs.Down.{onward, taken, receivedAs, received, down}
 use Rattle.plain.specs.Exceeding.{visits, collects, exceeds, exceeding}
-use Rattle.plain.specs.InRange.{goesUp, goesDown, upLane, downLane, phaseIn, entryIn, arbiterIn, inRange}
+use Rattle.plain.specs.InRange.{goesUp, goesDown, phaseIn, entryIn, arbiterIn, inRange}
+use Rattle.plain.specs.Lanes.{keeps}
 use Rattle.plain.specs.Request.{requestRefusal, requested, request}
 use Rattle.plain.specs.Run.{Call, call, run}
 use Rattle.plain.specs.State.{fresh}
@@ -27,5 +28,5 @@ unfolding commonWithin families firstFamily emptied leastSize width member visit
 six-units = refl
 
 pub six-entered : map said (run (fresh 2 5 (1 ∷ (2 ∷ []))) (exceeding 2 5 (1 ∷ (2 ∷ [])))) ≡ done ∷ (done ∷ (enters 1 ∷ (done ∷ (done ∷ (enters 5 ∷ [])))))
-unfolding commonWithin families firstFamily emptied leastSize width member visits collects exceeds exceeding brokenLimit lowestAmong lowestFrom at total fresh answered arrived fits serve unitsIn onward taken receivedAs received down goesUp goesDown upLane downLane phaseIn entryIn arbiterIn inRange requestRefusal requested request call run granting laneRefusal deliveryRefusal delivered up
+unfolding commonWithin families firstFamily emptied leastSize width member visits collects exceeds exceeding brokenLimit lowestAmong lowestFrom at total fresh answered arrived fits serve unitsIn onward taken receivedAs received down goesUp goesDown keeps phaseIn entryIn arbiterIn inRange requestRefusal requested request call run granting laneRefusal deliveryRefusal delivered up
 six-entered = refl

@@ -21,7 +21,7 @@ use Rattle.quorum.specs.Family.{quorum}
 use Rattle.plain.specs.Arbiter.{unitsIn, served, grantsTo}
 use Rattle.plain.specs.Down.{Taken, taken, takenAt, downPasses, receivedAs, received, down}
 use Rattle.plain.specs.InRange.{goesUp, phaseIn}
-use Rattle.plain.specs.Lanes.{sent}
+use Rattle.plain.specs.Lanes.{sent, upPlaces}
 use Rattle.plain.specs.Release.{releasing, released}
 use Rattle.plain.specs.Request.{lowest, requested}
 use Rattle.plain.specs.Run.{Call, call, after}
@@ -34,7 +34,7 @@ use Rattle.plain.specs.declared.Phase.the-variants.{Idle, Collecting, Ho
 use Rattle.plain.proofs.Approaching.{onward-as, Lowest-member, first-member}
 use Rattle.plain.proofs.Arriving.{arrived-own, arrived-line, arrived-grants, arrived-stock}
 use Rattle.plain.proofs.Calls.{each-call}
-use Rattle.plain.proofs.LanesInRange.{up-oldest}
+use Rattle.plain.proofs.LanesInRange.{keeps-first}
 use Rattle.plain.proofs.Pairs.{Part, Pair, sends-request, takes-grant, sends-release, line-served}
 use Rattle.plain.proofs.Passed.{Requestable, Delivers, Releases}
 use Rattle.plain.proofs.Range.{ranged}
@@ -98,7 +98,7 @@ module _ (st : State) (s j : ℕ) (d : Delivers st s j (st .up s j) (upPasses st
 
   goes-up : goesUp (st .stock) message ≡ true
   unfolding message
-  goes-up = up-oldest (st .stock) (d .rest) (d .message) (rw (d .taken) at (ranged st (d .range) .ups s (d .station) j (d .arbiter)))
+  goes-up = keeps-first upPlaces (goesUp (st .stock)) (d .message) (d .rest) (rw (d .taken) at (ranged st (d .range) .ups s (d .station) j (d .arbiter)))
 
   -- the lane up of station t to j, its oldest message taken if t is the sender
   lane-up : ℕ → List Message

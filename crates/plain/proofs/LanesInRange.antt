@@ -1,52 +1,45 @@
--- Lanes in range: a message more, a message less.
+-- Lanes and lines that keep their limit and have only what passes a test: with more, and with less.
 -- Assumes nothing.
-use mathlib.Core.Bool.{true, false}
+use mathlib.Core.Bool.{Bool, true, false}
 use mathlib.Core.List.{List, [], _∷_, _++_, map}
 use mathlib.Core.Path.{_≡_, refl}
 use Prim.Native.Nat.{ℕ}
 use native.Mathlib.Omega.{arith}
 use lib.Dec.{leb}
-use lib.ListN.{length}
+use lib.ListN.{length, length-append}
 use borrow.Author.Tests.{le-leb, leb-true, ltb-false}
 use Rattle.lists.specs.Search.{all}
-use Rattle.lists.proofs.Searches.{all-append}
+use Rattle.lists.proofs.Searches.{all-append, all-right}
 use Rattle.lists.proofs.Tests.{and-left, and-right, and-both}
-use Rattle.plain.specs.InRange.{goesUp, goesDown, upLane, downLane}
-use Rattle.plain.specs.Lanes.{upPlaces, downPlaces, passes, sent}
-use Rattle.plain.specs.declared.Message.{Message}
+use Rattle.plain.specs.InRange.{goesDown}
+use Rattle.plain.specs.Lanes.{keeps, passes}
 use Rattle.plain.specs.declared.Message.the-variants.{Grant}
 
-pub up-sent : (k : ℕ) (lane : List Message) (m : Message) → upLane k lane ≡ true → goesUp k m ≡ true → passes upPlaces (sent lane m) ≡ false → upLane k (sent lane m) ≡ true
-unfolding upLane
-up-sent k lane m e u room =
-    and-both (le-leb (length (sent lane m)) upPlaces (ltb-false upPlaces (length (sent lane m)) room))
-    (all-append (goesUp k) lane (m ∷ []) (and-right (leb (length lane) upPlaces) (all (goesUp k) lane) e) (and-both u refl))
+module _ {A : Type 0} (limit : ℕ) (f : A → Bool) where
+  -- more at the end, where that does not pass the limit
+  pub keeps-more : (l more : List A) → keeps limit f l ≡ true → all f more ≡ true → passes limit (l ++ more) ≡ false → keeps limit f (l ++ more) ≡ true
+  unfolding keeps
+  keeps-more l more e passed room =
+      and-both (le-leb (length (l ++ more)) limit (ltb-false limit (length (l ++ more)) room))
+      (all-append f l more (and-right (leb (length l) limit) (all f l) e) passed)
 
-pub up-taken : (k : ℕ) (lane : List Message) (m : Message) → upLane k (m ∷ lane) ≡ true → upLane k lane ≡ true
-unfolding upLane
-up-taken k lane m e =
-    let short = leb-true (length (m ∷ lane)) upPlaces (and-left (leb (length (m ∷ lane)) upPlaces) (all (goesUp k) (m ∷ lane)) e) in
-    and-both (le-leb (length lane) upPlaces (omega arith))
-    (and-right (goesUp k m) (all (goesUp k) lane) (and-right (leb (length (m ∷ lane)) upPlaces) (all (goesUp k) (m ∷ lane)) e))
+  -- less at the front
+  pub keeps-rest : (l rest : List A) → keeps limit f (l ++ rest) ≡ true → keeps limit f rest ≡ true
+  unfolding keeps
+  keeps-rest l rest e =
+      let short = leb-true (length (l ++ rest)) limit (and-left (leb (length (l ++ rest)) limit) (all f (l ++ rest)) e) in
+      and-both (le-leb (length rest) limit (omega (arith, length-append l rest)))
+      (all-right f l rest (and-right (leb (length (l ++ rest)) limit) (all f (l ++ rest)) e))
 
-pub up-oldest : (k : ℕ) (lane : List Message) (m : Message) → upLane k (m ∷ lane) ≡ true → goesUp k m ≡ true
-unfolding upLane
-up-oldest k lane m e = and-left (goesUp k m) (all (goesUp k) lane) (and-right (leb (length (m ∷ lane)) upPlaces) (all (goesUp k) (m ∷ lane)) e)
+  -- what is in it passes the test
+  pub keeps-all : (l : List A) → keeps limit f l ≡ true → all f l ≡ true
+  unfolding keeps
+  keeps-all l e = and-right (leb (length l) limit) (all f l) e
 
-grants-down : (us : List ℕ) → all goesDown (map (λ h. Grant) us) ≡ true
+  pub keeps-first : (x : A) (l : List A) → keeps limit f (x ∷ l) ≡ true → f x ≡ true
+  keeps-first x l e = and-left (f x) (all f l) (keeps-all (x ∷ l) e)
+
+pub grants-down : (us : List ℕ) → all goesDown (map (λ h. Grant) us) ≡ true
 unfolding goesDown
 grants-down [] = refl
 grants-down (u ∷ us) = grants-down us
-
-pub down-granted : (lane : List Message) (us : List ℕ) → downLane lane ≡ true → passes downPlaces (lane ++ map (λ h. Grant) us) ≡ false → downLane (lane ++ map (λ h. Grant) us) ≡ true
-unfolding downLane
-down-granted lane us e room =
-    and-both (le-leb (length (lane ++ map (λ h. Grant) us)) downPlaces (ltb-false downPlaces (length (lane ++ map (λ h. Grant) us)) room))
-    (all-append goesDown lane (map (λ h. Grant) us) (and-right (leb (length lane) downPlaces) (all goesDown lane) e) (grants-down us))
-
-pub down-taken : (lane : List Message) (m : Message) → downLane (m ∷ lane) ≡ true → downLane lane ≡ true
-unfolding downLane
-down-taken lane m e =
-    let short = leb-true (length (m ∷ lane)) downPlaces (and-left (leb (length (m ∷ lane)) downPlaces) (all goesDown (m ∷ lane)) e) in
-    and-both (le-leb (length lane) downPlaces (omega arith))
-    (and-right (goesDown m) (all goesDown lane) (and-right (leb (length (m ∷ lane)) downPlaces) (all goesDown (m ∷ lane)) e))

@@ -7,7 +7,8 @@ use Prim.Native.Nat.{ℕ}
 use lib.ListN.{replicate}
 use Rattle.lists.specs.At.{at}
 use Rattle.quorum.specs.Limits.{brokenLimit}
-use Rattle.plain.specs.InRange.{goesUp, goesDown, upLane, downLane, phaseIn, entryIn, arbiterIn, inRange}
+use Rattle.plain.specs.InRange.{goesUp, goesDown, phaseIn, entryIn, arbiterIn, inRange}
+use Rattle.plain.specs.Lanes.{keeps}
 use Rattle.plain.specs.State.{State, fresh}
 use Rattle.plain.specs.declared.Entry.{Entry}
 use Rattle.plain.specs.declared.Message.the-variants.{Request, Release, Grant}
@@ -36,7 +37,7 @@ pub on-the-limit :
     ∷ inRange (with-phase 2 (Holding 9 9) (with-line 2 (entry 9 9 ∷ []) (with-up 2 0 (Grant ∷ []) (with-up 0 2 (Grant ∷ []) (with-down 2 0 (Release ∷ []) (with-grant 0 2 9 two))))))
     ∷ [])
     (replicate 9 true)
-unfolding brokenLimit at fresh goesUp goesDown upLane downLane phaseIn entryIn arbiterIn inRange
+unfolding brokenLimit at fresh goesUp goesDown keeps phaseIn entryIn arbiterIn inRange
 on-the-limit = refl
 
 -- out of range, past it
@@ -75,5 +76,5 @@ pub past-the-limit :
     ∷ inRange (with-line 1 (replicate 13 (entry 0 1)) two)
     ∷ [])
     (replicate 27 false)
-unfolding brokenLimit at fresh goesUp goesDown upLane downLane phaseIn entryIn arbiterIn inRange
+unfolding brokenLimit at fresh goesUp goesDown keeps phaseIn entryIn arbiterIn inRange
 past-the-limit = refl

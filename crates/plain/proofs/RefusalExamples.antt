@@ -12,7 +12,8 @@ use Rattle.plain.specs.Answer.{Answer, answered}
 use Rattle.plain.specs.Arbiter.{arrived, fits, serve, unitsIn}
 use Rattle.plain.specs.Delivery.{laneRefusal, deliveryRefusal}
 use Rattle.plain.specs.Down.{down, onward, taken, receivedAs, received}
-use Rattle.plain.specs.InRange.{goesUp, goesDown, upLane, downLane, phaseIn, entryIn, arbiterIn, inRange}
+use Rattle.plain.specs.InRange.{goesUp, goesDown, phaseIn, entryIn, arbiterIn, inRange}
+use Rattle.plain.specs.Lanes.{keeps}
 use Rattle.plain.specs.Release.{releasing, releaseRefusal, released, release}
 use Rattle.plain.specs.Request.{requestRefusal, requested, request}
 use Rattle.plain.specs.State.{State, fresh}
@@ -67,5 +68,5 @@ pub in-order :
     ∷ (19 ∷ 8 ∷ 8 ∷ 13 ∷ 13 ∷ [])
     ∷ (19 ∷ 8 ∷ 12 ∷ 12 ∷ 14 ∷ [])
     ∷ [])
-unfolding brokenLimit member lowestAmong lowestFrom at total fresh answered arrived fits serve unitsIn onward taken receivedAs received down goesUp goesDown upLane downLane phaseIn entryIn arbiterIn inRange releasing releaseRefusal released release requestRefusal requested request granting laneRefusal deliveryRefusal delivered up
+unfolding brokenLimit member lowestAmong lowestFrom at total fresh answered arrived fits serve unitsIn onward taken receivedAs received down goesUp goesDown keeps phaseIn entryIn arbiterIn inRange releasing releaseRefusal released release requestRefusal requested request granting laneRefusal deliveryRefusal delivered up
 in-order = refl

@@ -13,7 +13,8 @@ use Rattle.plain.specs.Answer.{answered}
 use Rattle.plain.specs.Arbiter.{arrived, fits, serve, unitsIn}
 use Rattle.plain.specs.Delivery.{laneRefusal, deliveryRefusal}
 use Rattle.plain.specs.Down.{onward, taken, receivedAs, received, down}
-use Rattle.plain.specs.InRange.{goesUp, goesDown, upLane, downLane, phaseIn, entryIn, arbiterIn, inRange}
+use Rattle.plain.specs.InRange.{goesUp, goesDown, phaseIn, entryIn, arbiterIn, inRange}
+use Rattle.plain.specs.Lanes.{keeps}
 use Rattle.plain.specs.Release.{releasing, releaseRefusal, released, release}
 use Rattle.plain.specs.Request.{requestRefusal, requested, request}
 use Rattle.plain.specs.Run.{Call, call, run}
@@ -51,7 +52,7 @@ pub strictly-from-the-first :
     ∷ Call.Down 2 0
     ∷ []))
     ≡ done ∷ done ∷ done ∷ done ∷ done ∷ done ∷ refuses 13 ∷ refuses 13 ∷ enters 2 ∷ leaves 2 ∷ done ∷ enters 2 ∷ enters 1 ∷ []
-unfolding brokenLimit member lowestAmong lowestFrom at total fresh answered arrived fits serve unitsIn onward taken receivedAs received down goesUp goesDown upLane downLane phaseIn entryIn arbiterIn inRange releasing releaseRefusal released release requestRefusal requested request call run granting laneRefusal deliveryRefusal delivered up
+unfolding brokenLimit member lowestAmong lowestFrom at total fresh answered arrived fits serve unitsIn onward taken receivedAs received down goesUp goesDown keeps phaseIn entryIn arbiterIn inRange releasing releaseRefusal released release requestRefusal requested request call run granting laneRefusal deliveryRefusal delivered up
 strictly-from-the-first = refl
 
 -- Of two that wait for the only unit the older is granted first.
@@ -70,7 +71,7 @@ pub oldest-first :
     ∷ Call.Down 2 0
     ∷ []))
     ≡ done ∷ done ∷ done ∷ done ∷ done ∷ done ∷ enters 1 ∷ leaves 1 ∷ done ∷ refuses 13 ∷ enters 1 ∷ []
-unfolding brokenLimit member lowestAmong lowestFrom at total fresh answered arrived fits serve unitsIn onward taken receivedAs received down goesUp goesDown upLane downLane phaseIn entryIn arbiterIn inRange releasing releaseRefusal released release requestRefusal requested request call run granting laneRefusal deliveryRefusal delivered up
+unfolding brokenLimit member lowestAmong lowestFrom at total fresh answered arrived fits serve unitsIn onward taken receivedAs received down goesUp goesDown keeps phaseIn entryIn arbiterIn inRange releasing releaseRefusal released release requestRefusal requested request call run granting laneRefusal deliveryRefusal delivered up
 oldest-first = refl
 
 -- Up on states made by hand, one station, one arbiter
@@ -102,5 +103,5 @@ pub by-hand :
     ∷ record { answer = refuses 14; phase = Idle; granted = 0; line = replicate 12 (entry 0 200); up = Request 1 ∷ []; down = [] }
     ∷ record { answer = done; phase = Idle; granted = 200; line = replicate 11 (entry 0 200); up = []; down = Grant ∷ [] }
     ∷ [])
-unfolding brokenLimit member lowestAmong lowestFrom at total fresh answered arrived fits serve unitsIn goesUp goesDown upLane downLane phaseIn entryIn arbiterIn inRange granting laneRefusal deliveryRefusal delivered up
+unfolding brokenLimit member lowestAmong lowestFrom at total fresh answered arrived fits serve unitsIn goesUp goesDown keeps phaseIn entryIn arbiterIn inRange granting laneRefusal deliveryRefusal delivered up
 by-hand = refl

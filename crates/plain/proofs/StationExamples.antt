@@ -12,7 +12,8 @@ use Rattle.plain.specs.Answer.{answered}
 use Rattle.plain.specs.Arbiter.{arrived, fits, serve, unitsIn}
 use Rattle.plain.specs.Delivery.{laneRefusal, deliveryRefusal}
 use Rattle.plain.specs.Down.{onward, taken, receivedAs, received, down}
-use Rattle.plain.specs.InRange.{goesUp, goesDown, upLane, downLane, phaseIn, entryIn, arbiterIn, inRange}
+use Rattle.plain.specs.InRange.{goesUp, goesDown, phaseIn, entryIn, arbiterIn, inRange}
+use Rattle.plain.specs.Lanes.{keeps}
 use Rattle.plain.specs.Release.{releasing, releaseRefusal, released, release}
 use Rattle.plain.specs.Request.{requestRefusal, requested, request}
 use Rattle.plain.specs.State.{State, fresh}
@@ -60,7 +61,7 @@ pub grants-taken :
     ∷ record { answer = done; phase = Idle; granted = 0; line = []; up = []; down = Grant ∷ [] }
     ∷ record { answer = refuses 14; phase = Collecting 0 1 0; granted = 0; line = []; up = Release ∷ (Release ∷ (Release ∷ (Release ∷ []))); down = [] }
     ∷ [])
-unfolding brokenLimit member lowestAmong lowestFrom at total fresh answered arrived fits serve unitsIn onward taken receivedAs received down goesUp goesDown upLane downLane phaseIn entryIn arbiterIn inRange releasing releaseRefusal released release requestRefusal requested request granting laneRefusal deliveryRefusal delivered up
+unfolding brokenLimit member lowestAmong lowestFrom at total fresh answered arrived fits serve unitsIn onward taken receivedAs received down goesUp goesDown keeps phaseIn entryIn arbiterIn inRange releasing releaseRefusal released release requestRefusal requested request granting laneRefusal deliveryRefusal delivered up
 grants-taken = refl
 
 -- station 1 holds by the quorum {0, 2} and gives back
@@ -87,5 +88,5 @@ pub gives-back :
     ∷ record { answer = refuses 14; phase = Holding 0 1; granted = 0; line = []; up = []; down = [] }
     ∷ record { answer = leaves 1; phase = Idle; granted = 0; line = []; up = Release ∷ []; down = [] }
     ∷ [])
-unfolding brokenLimit member lowestAmong lowestFrom at total fresh answered arrived fits serve unitsIn onward taken receivedAs received down goesUp goesDown upLane downLane phaseIn entryIn arbiterIn inRange releasing releaseRefusal released release requestRefusal requested request granting laneRefusal deliveryRefusal delivered up
+unfolding brokenLimit member lowestAmong lowestFrom at total fresh answered arrived fits serve unitsIn onward taken receivedAs received down goesUp goesDown keeps phaseIn entryIn arbiterIn inRange releasing releaseRefusal released release requestRefusal requested request granting laneRefusal deliveryRefusal delivered up
 gives-back = refl

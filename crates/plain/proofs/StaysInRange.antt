@@ -1,7 +1,7 @@
 -- A fresh state is in range, and a call keeps a state in range.
 -- Assumes nothing.
 use mathlib.Core.Bool.{Bool, true, false, cond, _&&_}
-use mathlib.Core.List.{List, _∷_}
+use mathlib.Core.List.{List, [], _∷_}
 use mathlib.Core.Logic.{by-cases, ⊎-elim}
 use mathlib.Core.Path.{_≡_, refl}
 use Prim.Native.Nat.{ℕ, suc, _<_}
@@ -19,10 +19,10 @@ use Rattle.stations.specs.Member.{member}
 use Rattle.stations.specs.Sets.{lowestFrom}
 use Rattle.quorum.specs.Family.{quorum}
 use Rattle.quorum.specs.Limits.{brokenLimit, upTo}
-use Rattle.plain.specs.Arbiter.{unitsIn}
+use Rattle.plain.specs.Arbiter.{unitsIn, grantsTo}
 use Rattle.plain.specs.Down.{Taken, onward, taken, takenAt, downPasses, receivedAs, received}
-use Rattle.plain.specs.InRange.{goesUp, upLane, downLane, phaseIn, arbiterIn, inRange}
-use Rattle.plain.specs.Lanes.{downPlaces, linePlaces, passes, sent}
+use Rattle.plain.specs.InRange.{goesUp, upLane, downLane, phaseIn, arbiterIn, inRange, goesDown}
+use Rattle.plain.specs.Lanes.{downPlaces, linePlaces, passes, sent, upPlaces, keeps}
 use Rattle.plain.specs.Release.{releasing, releasePasses, released}
 use Rattle.plain.specs.Request.{lowest, requested}
 use Rattle.plain.specs.Run.{Call, call, after}
@@ -34,14 +34,14 @@ use Rattle.plain.specs.declared.Phase.the-variants.{Idle, Collecting, Ho
 use Rattle.plain.proofs.Approaching.{onward-as, first-member}
 use Rattle.plain.proofs.ArbitersInRange.{arbiter-facts, facts-arbiter, arrived-in, served-in}
 use Rattle.plain.proofs.Calls.{each-call}
-use Rattle.plain.proofs.LanesInRange.{up-sent, up-taken, up-oldest, down-granted, down-taken}
+use Rattle.plain.proofs.LanesInRange.{keeps-more, keeps-rest, keeps-first, grants-down}
 use Rattle.plain.proofs.Passed.{Requestable, Delivers, Releases}
 use Rattle.plain.proofs.Range.{Ranged, ranged, in-range}
 use Rattle.plain.proofs.Releasing.{releasing-member, releasing-other}
 use Rattle.plain.proofs.Runs.{after-keeps}
 
 fresh-ranged : (n k : ℕ) (table : List ℕ) → brokenLimit n k table ≡ 0 → Ranged (fresh n k table)
-unfolding fresh phaseIn arbiterIn upLane downLane
+unfolding fresh phaseIn arbiterIn keeps
 fresh-ranged n k table kept =
     record {
       limits = kept;
@@ -64,7 +64,7 @@ request-ranged st s q h r =
           (and-both (lt-ltb q (length (st .table)) (r .quorum)) (and-both (r .units) (lt-ltb (lowest st q) (st .n) (low .station)))) t (g .phases t l);
       arbiters = g .arbiters;
       ups = λ t l j b. at2-all (λ lane. upLane (st .stock) lane ≡ true) (st .up) s (lowest st q) _
-          (up-sent (st .stock) (st .up s (lowest st q)) (Request h) (g .ups s (r .station) (lowest st q) (low .station)) (r .units) (r .room))
+          (keeps-more upPlaces (goesUp (st .stock)) (st .up s (lowest st q)) (Request h ∷ []) (g .ups s (r .station) (lowest st q) (low .station)) (and-both (r .units) refl) (r .room))
           t j (λ o. g .ups t l j b);
       downs = g .downs;
     }
@@ -86,14 +86,15 @@ module _ (st : State) (s j : ℕ) (d : Delivers st s j (st .up s j) (upPasses st
   arbiter-in =
       facts-arbiter (st .n) (st .stock) (servedAt st s j (d .message) .arbiter)
       (served-in (st .n) (st .stock) (arrivedAt st s j (d .message))
-      (arrived-in (st .n) (st .stock) (d .message) s (st .arbiter j) (d .station) (up-oldest (st .stock) (d .rest) (d .message) lane) (room .0)
+      (arrived-in (st .n) (st .stock) (d .message) s (st .arbiter j) (d .station) (keeps-first upPlaces (goesUp (st .stock)) (d .message) (d .rest) lane) (room .0)
       (arbiter-facts (st .n) (st .stock) (st .arbiter j) (g .arbiters j (d .arbiter)))))
 
   granting-in : (t : ℕ) → t < st .n → (x : ℕ) → x < st .n → downLane (granting st j (servedAt st s j (d .message) .grants) t x) ≡ true
   unfolding granting
   granting-in t l x b =
       by-cases (ℕ-discrete x j)
-      (λ (e : x ≡ j). rw (e, eq-eqb j j refl) (down-granted (st .down t j) (unitsIn t (servedAt st s j (d .message) .grants)) (g .downs t l j (d .arbiter)) (rw (eq-eqb j j refl) at (some-never _ (st .n) (room .1) t l))))
+      (λ (e : x ≡ j). rw (e, eq-eqb j j refl) (keeps-more downPlaces goesDown (st .down t j) (grantsTo t (servedAt st s j (d .message) .grants)) (g .downs t l j (d .arbiter))
+      (grants-down (unitsIn t (servedAt st s j (d .message) .grants))) (rw (eq-eqb j j refl) at (some-never _ (st .n) (room .1) t l))))
       (λ (o : x ≡ j → ⊥). rw (ne-eqb x j o) (g .downs t l x b))
 
   up-ranged : Ranged (delivered st s j (st .up s j))
@@ -103,7 +104,7 @@ module _ (st : State) (s j : ℕ) (d : Delivers st s j (st .up s j) (upPasses st
         limits = g .limits;
         phases = g .phases;
         arbiters = λ x b. at-all (λ a. arbiterIn (st .n) (st .stock) a ≡ true) (st .arbiter) j (servedAt st s j (d .message) .arbiter) arbiter-in x (g .arbiters x b);
-        ups = λ t l x b. at2-all (λ z. upLane (st .stock) z ≡ true) (st .up) s j (d .rest) (up-taken (st .stock) (d .rest) (d .message) lane) t x (λ o. g .ups t l x b);
+        ups = λ t l x b. at2-all (λ z. upLane (st .stock) z ≡ true) (st .up) s j (d .rest) (keeps-rest upPlaces (goesUp (st .stock)) (d .message ∷ []) (d .rest) lane) t x (λ o. g .ups t l x b);
         downs = granting-in;
       })
 
@@ -144,7 +145,7 @@ module _ (st : State) (s j : ℕ) (d : Delivers st s j (st .down s j) (λ m. dow
   rest-in : (t : ℕ) → t < st .n → (x : ℕ) → x < st .n → downLane (at2 (st .down) s j (d .rest) t x) ≡ true
   rest-in t l x b =
       let downs = in-range-before .downs in
-      at2-all (λ z. downLane z ≡ true) (st .down) s j (d .rest) (down-taken (d .rest) (d .message) (rw (d .taken) at (downs s (d .station) j (d .arbiter)))) t x (λ o. downs t l x b)
+      at2-all (λ z. downLane z ≡ true) (st .down) s j (d .rest) (keeps-rest downPlaces goesDown (d .message ∷ []) (d .rest) (rw (d .taken) at (downs s (d .station) j (d .arbiter)))) t x (λ o. downs t l x b)
 
   taken-ranged : (t : Taken) → takenIn (st .n) (st .stock) (st .table) t ≡ true → downPasses st s t ≡ false → Ranged (receivedAs st s j (d .rest) t)
   unfolding receivedAs takenIn phaseIn goesUp
@@ -157,7 +158,7 @@ module _ (st : State) (s j : ℕ) (d : Delivers st s j (st .down s j) (λ m. dow
         phases = λ t l. at-all (λ p. phaseIn (st .n) (st .stock) (st .table) p ≡ true) (st .phase) s (Collecting q h m) e t (b .phases t l);
         arbiters = b .arbiters;
         ups = λ t l x c. at2-all (λ z. upLane (st .stock) z ≡ true) (st .up) s m (sent (st .up s m) (Request h))
-            (up-sent (st .stock) (st .up s m) (Request h) (b .ups s (d .station) m below) (and-left (upTo (st .stock) h) (ltb m (st .n)) units) room)
+            (keeps-more upPlaces (goesUp (st .stock)) (st .up s m) (Request h ∷ []) (b .ups s (d .station) m below) (and-both (and-left (upTo (st .stock) h) (ltb m (st .n)) units) refl) room)
             t x (λ o. b .ups t l x c);
         downs = rest-in;
       }
@@ -207,7 +208,7 @@ release-ranged st s r = rw (r .holding) (
         ⊎-elim
         (λ (t : member (quorum (st .table) (r .quorum)) j ≡ true).
         rw (releasing-member st s (r .quorum) j t)
-        (up-sent (st .stock) (st .up s j) Release (b .ups s (r .station) j c) refl
+        (keeps-more upPlaces (goesUp (st .stock)) (st .up s j) (Release ∷ []) (b .ups s (r .station) j c) refl
         (rw (t, releasing-member st s (r .quorum) j t) at (some-never (λ j. releasePasses st s (r .quorum) j) (st .n) (r .room) j c))))
         (λ (f : member (quorum (st .table) (r .quorum)) j ≡ false). rw (releasing-other st s (r .quorum) j f) (b .ups s (r .station) j c))
         (known (member (quorum (st .table) (r .quorum)) j))

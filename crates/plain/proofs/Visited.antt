@@ -19,7 +19,6 @@ use Rattle.stations.specs.Member.{member}
 use Rattle.stations.specs.Sets.{places, lowestFrom}
 use Rattle.stations.proofs.Lowest.{lowest-here}
 use Rattle.quorum.specs.Family.{quorum}
-use Rattle.quorum.proofs.LimitLaws.{limits-kept}
 use Rattle.plain.specs.Arbiter.{arrived, fits, Served, serve, unitsIn}
 use Rattle.plain.specs.Down.{Taken, onward, taken, takenAt, downPasses, enters, downRefusal, receivedAs, received, down}
 use Rattle.plain.specs.InRange.{inRange}
@@ -31,7 +30,7 @@ use Rattle.plain.specs.declared.Entry.{Entry}
 use Rattle.plain.specs.declared.Message.the-variants.{Request, Grant}
 use Rattle.plain.specs.declared.Phase.{Phase}
 use Rattle.plain.specs.declared.Phase.the-variants.{Collecting, Holding}
-use Rattle.plain.proofs.Approaching.{onward-as, Lowest-member}
+use Rattle.plain.proofs.Approaching.{station-place, onward-as, Lowest-member}
 use Rattle.plain.proofs.Passed.{answered-done, delivery-passes}
 use Rattle.plain.proofs.Range.{ranged}
 use Rattle.plain.proofs.StaysInRange.{call-in-range}
@@ -61,7 +60,7 @@ module _ (st : State) (was : ℕ → Phase) (s p h i : ℕ) (load : ℕ → ℕ)
   entry = record { station = s; units = h }
 
   place : i < places
-  place = omega (arith, limits-kept (st .n) (st .stock) (st .table) (ranged st (v .range) .limits) .stations .1)
+  place = omega (arith, station-place (st .n) (st .stock) (st .table) (ranged st (v .range) .limits))
 
   -- the member is the next
   here : lowestFrom (quorum (st .table) p) i ≡ i

@@ -4,9 +4,9 @@ use mathlib.Core.List.{List}
 use Prim.Native.Nat.{ℕ}
 use lib.Dec.{eqb, leb, ltb}
 use lib.ListN.{length}
-use Rattle.lists.specs.Search.{all, everyBelow}
+use Rattle.lists.specs.Search.{everyBelow}
 use Rattle.quorum.specs.Limits.{brokenLimit, upTo}
-use Rattle.plain.specs.Lanes.{upPlaces, downPlaces, linePlaces}
+use Rattle.plain.specs.Lanes.{upPlaces, downPlaces, linePlaces, keeps}
 use Rattle.plain.specs.State.{Arbiter, State}
 use Rattle.plain.specs.declared.Entry.{Entry}
 use Rattle.plain.specs.declared.Message.{Message}
@@ -27,11 +27,11 @@ goesDown Release = false
 goesDown Grant = true
 
 -- "lanes keep their limits"
-unfoldable pub upLane : ℕ → List Message → Bool
-upLane k lane = leb (length lane) upPlaces && all (goesUp k) lane
+abbrev pub upLane : ℕ → List Message → Bool
+upLane k lane = keeps upPlaces (goesUp k) lane
 
-unfoldable pub downLane : List Message → Bool
-downLane lane = leb (length lane) downPlaces && all goesDown lane
+abbrev pub downLane : List Message → Bool
+downLane lane = keeps downPlaces goesDown lane
 
 -- "station and quorum numbers exist .. all other units 1 to k": a station
 unfoldable pub phaseIn : ℕ → ℕ → List ℕ → Phase → Bool
@@ -45,7 +45,7 @@ entryIn n k e = ltb (e .station) n && upTo k (e .units)
 
 -- "granted units are 0 to k .. a line has at most 12 entries"
 unfoldable pub arbiterIn : ℕ → ℕ → Arbiter → Bool
-arbiterIn n k a = everyBelow (λ s. leb (a .granted s) k) n && (leb (length (a .line)) linePlaces && all (entryIn n k) (a .line))
+arbiterIn n k a = everyBelow (λ s. leb (a .granted s) k) n && keeps linePlaces (entryIn n k) (a .line)
 
 -- "A record is in range when n, k and table pass 1 to 4" and all that belongs to the n stations is as above
 unfoldable pub inRange : State → Bool

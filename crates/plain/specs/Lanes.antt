@@ -1,9 +1,10 @@
 -- Lanes and lines: their limits, and the place of what is new.
-use mathlib.Core.Bool.{Bool}
+use mathlib.Core.Bool.{Bool, _&&_}
 use mathlib.Core.List.{List, [], _∷_, _++_}
 use Prim.Native.Nat.{ℕ}
-use lib.Dec.{ltb}
+use lib.Dec.{leb, ltb}
 use lib.ListN.{length}
+use Rattle.lists.specs.Search.{all}
 
 -- "an up lane of at most 4 messages"
 abbrev pub upPlaces : ℕ
@@ -18,6 +19,10 @@ abbrev pub linePlaces : ℕ
 linePlaces = 12
 
 module _ {A : Type 0} where
+  -- whether a lane or line keeps its limit and has only what f holds of
+  unfoldable pub keeps : ℕ → (A → Bool) → List A → Bool
+  keeps limit f l = leb (length l) limit && all f l
+
   -- whether a lane or line passes its limit
   abbrev pub passes : ℕ → List A → Bool
   passes limit l = ltb limit (length l)

@@ -53,16 +53,23 @@ pub record Without (n k : ℕ) (table : List ℕ) : Type 0 where
   pub size : length list ≡ k + 1
   pub none : Common n table list → ⊥
 
+-- the width of a table that lacks a common member
+pub lacks-width : (n k : ℕ) (table : List ℕ) → lacksCommon n k table ≡ true → (2 ≤ width n table) × (width n table ≤ k + 1)
+unfolding lacksCommon
+lacks-width n k table e = (
+  leb-true 2 (width n table) (and-left (leb 2 (width n table)) (leb (width n table) (k + 1)) e),
+  leb-true (width n table) (k + 1) (and-right (leb 2 (width n table)) (leb (width n table) (k + 1)) e),
+)
+
 module _ (n k : ℕ) (table : List ℕ) (kept : brokenLimit n k table ≡ 0) where
   lacks-without : lacksCommon n k table ≡ true → Without n k table
-  unfolding lacksCommon
   lacks-without e = go (width-is n table (limits-kept n k table kept .stations .0))
     where
       low : 2 ≤ width n table
-      low = leb-true 2 (width n table) (and-left (leb 2 (width n table)) (leb (width n table) (k + 1)) e)
+      low = lacks-width n k table e .0
 
       high : width n table ≤ k + 1
-      high = leb-true (width n table) (k + 1) (and-right (leb 2 (width n table)) (leb (width n table) (k + 1)) e)
+      high = lacks-width n k table e .1
 
       go : Width n table (width n table) → Without n k table
       go (Width.nothing z never) = absurd (omega (arith, low))
@@ -83,7 +90,4 @@ module _ (n k : ℕ) (table : List ℕ) (kept : brokenLimit n k table ≡ 0) whe
 
   -- the family of refusal 6 is ascending, of size width, without common member, and no such family comes before it in dictionary order
   pub first-family-is : lacksCommon n k table ≡ true → First (emptyWithin table (everyone n)) (length table) 0 (width n table) (firstFamily n table)
-  unfolding lacksCommon
-  first-family-is e =
-      first-at-width n table (limits-kept n k table kept .stations .0)
-      (omega (arith, leb-true 2 (width n table) (and-left (leb 2 (width n table)) (leb (width n table) (k + 1)) e)))
+  first-family-is e = first-at-width n table (limits-kept n k table kept .stations .0) (omega (arith, lacks-width n k table e .0))
