@@ -6,3 +6,4 @@ pub mod Joined
 pub mod Counting
 pub mod Changed
 pub mod Totals
+pub mod Arrays

@@ -1,6 +1,6 @@
 -- Searches over lists that are joined or mapped, and tests over the numbers below a bound.
 -- Assumes nothing.
-use mathlib.Core.Bool.{Bool, true, false, _||_, or-assoc, or-false}
+use mathlib.Core.Bool.{Bool, true, false, _&&_, _||_, and-assoc, and-true, or-assoc, or-false}
 use mathlib.Core.List.{List, [], _∷_, _++_, map}
 use mathlib.Core.Logic.{⊎-elim}
 use mathlib.Core.Path.{_≡_, refl, sym, ap, ap₂, _∙_}
@@ -41,7 +41,13 @@ module _ {A : Type 0} where
   pub any-end : (f : A → Bool) (xs : List A) (i : ℕ) → length xs ≤ i → any f (drop i xs) ≡ false
   any-end f xs i h = rw (drop-of-length-le xs h)
 
-  -- every element of two lists joined
+  -- every element: the one at a place
+  pub all-at : (f : A → Bool) (d : A) (xs : List A) → all f xs ≡ true → (i : ℕ) → i < length xs → f (getD xs i d) ≡ true
+  all-at f d [] e i h = absurd (omega arith)
+  all-at f d (x ∷ xs) e zero h = and-left (f x) (all f xs) e
+  all-at f d (x ∷ xs) e (suc i) h = all-at f d xs (and-right (f x) (all f xs) e) i (omega arith)
+
+  -- of two lists joined
   pub all-append : (f : A → Bool) (xs ys : List A) → all f xs ≡ true → all f ys ≡ true → all f (xs ++ ys) ≡ true
   all-append f [] ys p q = q
   all-append f (x ∷ xs) ys p q =
@@ -50,6 +56,10 @@ module _ {A : Type 0} where
   pub all-right : (f : A → Bool) (xs ys : List A) → all f (xs ++ ys) ≡ true → all f ys ≡ true
   all-right f [] ys e = e
   all-right f (x ∷ xs) ys e = all-right f xs ys (and-right (f x) (all f (xs ++ ys)) e)
+
+  pub all-last : (f : A → Bool) (xs : List A) (y : A) → all f (xs ++ (y ∷ [])) ≡ (all f xs && f y)
+  all-last f [] y = and-true (f y)
+  all-last f (x ∷ xs) y = ap (λ (b : Bool). f x && b) (all-last f xs y) ∙ sym (and-assoc (f x) (all f xs) (f y))
 
   -- the first of two lists joined: of the left one where that has any
   pub first-append-some : (f : A → Bool) (d : A) (xs ys : List A) → any f xs ≡ true → firstOf f d (xs ++ ys) ≡ firstOf f d xs
@@ -66,6 +76,10 @@ module _ {A B : Type 0} where
   pub any-map : (f : B → Bool) (g : A → B) (xs : List A) → any f (map g xs) ≡ any (λ (x : A). f (g x)) xs
   any-map f g [] = refl
   any-map f g (x ∷ xs) = ap (λ (b : Bool). f (g x) || b) (any-map f g xs)
+
+  pub all-map : (f : B → Bool) (g : A → B) (xs : List A) → all f (map g xs) ≡ all (λ (x : A). f (g x)) xs
+  all-map f g [] = refl
+  all-map f g (x ∷ xs) = ap (λ (b : Bool). f (g x) && b) (all-map f g xs)
 
   pub first-map : (f : B → Bool) (g : A → B) (d : A) (e : B) (xs : List A) → any (λ (x : A). f (g x)) xs ≡ true
       → firstOf f e (map g xs) ≡ g (firstOf (λ (x : A). f (g x)) d xs)
@@ -87,6 +101,11 @@ every-at f (suc n) e i h =
 pub every-false : (f : ℕ → Bool) (n i : ℕ) → i < n → f i ≡ false → everyBelow f n ≡ false
 every-false f n i h e = not-true-false (everyBelow f n) (λ t. clash (every-at f n t i h) e)
 
+-- tests that agree below n
+pub every-same : (f g : ℕ → Bool) (n : ℕ) → ((i : ℕ) → i < n → f i ≡ g i) → everyBelow f n ≡ everyBelow g n
+every-same f g zero h = refl
+every-same f g (suc n) h = ap₂ _&&_ (every-same f g n (λ i p. h i (omega arith))) (h n (omega arith))
+
 pub some-at : (f : ℕ → Bool) (n i : ℕ) → i < n → f i ≡ true → someBelow f n ≡ true
 some-at f zero i h t = absurd (omega arith)
 some-at f (suc n) i h t =
@@ -95,6 +114,10 @@ some-at f (suc n) i h t =
 
 pub some-never : (f : ℕ → Bool) (n : ℕ) → someBelow f n ≡ false → (i : ℕ) → i < n → f i ≡ false
 some-never f n e i h = not-true-false (f i) (λ t. clash (some-at f n i h t) e)
+
+pub some-empty : (f : ℕ → Bool) (n : ℕ) → ((i : ℕ) → i < n → f i ≡ false) → someBelow f n ≡ false
+some-empty f zero h = refl
+some-empty f (suc n) h = rw (h n (omega arith), some-empty f n (λ i p. h i (omega arith)))
 
 pub some-found : (f : ℕ → Bool) (n : ℕ) → someBelow f n ≡ true → (i : ℕ) × (i < n) × (f i ≡ true)
 some-found f zero e = absurd (clash e refl)
@@ -107,7 +130,6 @@ some-found f (suc n) e =
 pub some-none : (f : ℕ → Bool) (i : ℕ) → someBelow f i ≡ false → f i ≡ false → someBelow f (i + 1) ≡ false
 some-none f i e n = rw (add-one i, e, n)
 
--- tests that agree below n
 pub some-same : (f g : ℕ → Bool) (n : ℕ) → ((i : ℕ) → i < n → f i ≡ g i) → someBelow f n ≡ someBelow g n
 some-same f g zero h = refl
 some-same f g (suc n) h = ap₂ _||_ (some-same f g n (λ i p. h i (omega arith))) (h n (omega arith))
@@ -116,3 +138,21 @@ some-same f g (suc n) h = ap₂ _||_ (some-same f g n (λ i p. h i (omega arith)
 pub some-first : (f : ℕ → Bool) (n : ℕ) → someBelow f (suc n) ≡ (f 0 || someBelow (λ i. f (suc i)) n)
 some-first f zero = sym (or-false (f 0))
 some-first f (suc n) = ap (λ (b : Bool). b || f (suc n)) (some-first f n) ∙ or-assoc (f 0) (someBelow (λ i. f (suc i)) n) (f (suc n))
+
+-- ---- a loop over the numbers from 0 on that stops at the first of which f does not hold
+
+-- f holds of every number below i
+pub record Tested (f : ℕ → Bool) (i : ℕ) : Type 0 where
+  pub every : everyBelow f i ≡ true
+
+pub tested-none : (f : ℕ → Bool) → Tested f 0
+tested-none f = record { every = refl }
+
+pub tested-more : {f : ℕ → Bool} {i : ℕ} → Tested f i → f i ≡ true → Tested f (i + 1)
+tested-more {f} {i} t e = record { every = rw (add-one i) (and-both (t .every) e) }
+
+pub tested-fails : {f : ℕ → Bool} {i n : ℕ} → Tested f i → i < n → f i ≡ false → everyBelow f n ≡ false
+tested-fails {f} {i} {n} t h e = every-false f n i h e
+
+pub tested-end : {f : ℕ → Bool} {i n : ℕ} → Tested f i → i ≡ n → everyBelow f n ≡ true
+tested-end {f} t e = ap (everyBelow f) (sym e) ∙ t .every

@@ -4,6 +4,8 @@ use mathlib.Core.Logic.{by-cases}
 use mathlib.Core.Path.{_≡_, refl, ap₂}
 use Prim.Native.Nat.{ℕ, zero, suc, _+_, _≤_, _<_}
 use native.Mathlib.Decide.{ℕ-discrete}
+use native.Mathlib.Nat.{add-comm}
+use native.Mathlib.Numerals.{add-one}
 use native.Mathlib.Omega.{arith}
 use Rattle.lists.specs.At.{at}
 use Rattle.lists.specs.Counting.{total}
@@ -57,3 +59,8 @@ total-at-le f a x (suc n) =
     by-cases (ℕ-discrete n a)
     (λ (e : n ≡ a). rw e (let here = at-same f a x in let rest = total-beyond f a x a (omega arith) in omega arith))
     (λ (d : n ≡ a → ⊥). let here = at-other f a x n d in let rest = total-at-le f a x n in omega arith)
+
+-- one number more
+pub total-more : (f : ℕ → ℕ) (i : ℕ) → total f (i + 1) ≡ total f i + f i
+unfolding total
+total-more f i = rw (add-one i) (add-comm (f i) (total f i))

@@ -2,3 +2,4 @@ pub mod Cut
 pub mod Search
 pub mod Counting
 pub mod At
+pub mod Shown

@@ -143,7 +143,7 @@ module _ (st : State) (s j : ℕ) (d : Delivers st s j (st .up s j) (upPasses st
 
       other : (t x : ℕ) → (x ≡ j → ⊥)
           → Pair (wants (st .table) (st .phase t) x) (at2 (st .up) s j (d .rest) t x) (unitsIn t (at (st .arbiter) j (served (st .n) (st .stock) a .arbiter) x .line))
-          (at (st .arbiter) j (served (st .n) (st .stock) a .arbiter) x .granted t) (granting st j (served (st .n) (st .stock) a .grants) t x)
+          (at (st .arbiter) j (served (st .n) (st .stock) a .arbiter) x .granted t) (granting (st .down) j (served (st .n) (st .stock) a .grants) t x)
       other t x o = rw (same-lane t x o, at-other (st .arbiter) j (served (st .n) (st .stock) a .arbiter) x o, ne-eqb x j o) (i .pairs t x)
 
 -- ---- Down
@@ -237,10 +237,10 @@ module _ (st : State) (s : ℕ) (r : Releases st s) (i : Invariant st) where
       before : (x : ℕ) → Pair (share (st .table) q (r .units) x) (st .up s x) (unitsIn s (st .arbiter x .line)) (st .arbiter x .granted s) (st .down s x)
       before x = rw (r .holding) at (i .pairs s x)
 
-      own : (x : ℕ) → Pair Part.nothing (releasing st s q x) (unitsIn s (st .arbiter x .line)) (st .arbiter x .granted s) (st .down s x)
+      own : (x : ℕ) → Pair Part.nothing (releasing (quorum (st .table) q) (st .up s) x) (unitsIn s (st .arbiter x .line)) (st .arbiter x .granted s) (st .down s x)
       own x =
-          ⊎-elim (λ (b : member (quorum (st .table) q) x ≡ true). rw (releasing-member st s q x b) (sends-release (rw (share-member (st .table) q (r .units) x b) at (before x))))
-          (λ (b : member (quorum (st .table) q) x ≡ false). rw (releasing-other st s q x b) (rw (share-other (st .table) q (r .units) x b) at (before x)))
+          ⊎-elim (λ (b : member (quorum (st .table) q) x ≡ true). rw (releasing-member (quorum (st .table) q) (st .up s) x b) (sends-release (rw (share-member (st .table) q (r .units) x b) at (before x))))
+          (λ (b : member (quorum (st .table) q) x ≡ false). rw (releasing-other (quorum (st .table) q) (st .up s) x b) (rw (share-other (st .table) q (r .units) x b) at (before x)))
           (known (member (quorum (st .table) q) x))
 
 -- ---- at the start, at each call, and after any list of calls

@@ -3,7 +3,7 @@
 use mathlib.Core.Bool.{Bool, true, false}
 use mathlib.Core.List.{List, [], _∷_, _++_, map}
 use mathlib.Core.Path.{_≡_, refl}
-use Prim.Native.Nat.{ℕ}
+use Prim.Native.Nat.{ℕ, _≤_}
 use native.Mathlib.Omega.{arith}
 use lib.Dec.{leb}
 use lib.ListN.{length, length-append}
@@ -30,6 +30,11 @@ module _ {A : Type 0} (limit : ℕ) (f : A → Bool) where
       let short = leb-true (length (l ++ rest)) limit (and-left (leb (length (l ++ rest)) limit) (all f (l ++ rest)) e) in
       and-both (le-leb (length rest) limit (omega (arith, length-append l rest)))
       (all-right f l rest (and-right (leb (length (l ++ rest)) limit) (all f (l ++ rest)) e))
+
+  -- its length keeps the limit
+  pub keeps-short : (l : List A) → keeps limit f l ≡ true → length l ≤ limit
+  unfolding keeps
+  keeps-short l e = leb-true (length l) limit (and-left (leb (length l) limit) (all f l) e)
 
   -- what is in it passes the test
   pub keeps-all : (l : List A) → keeps limit f l ≡ true → all f l ≡ true

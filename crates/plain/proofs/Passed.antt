@@ -12,7 +12,7 @@ use lib.ListN.{length}
 use borrow.Author.Tests.{eq-eqb, ne-eqb, leb-false, lt-leb, not-false}
 use Rattle.lists.specs.Search.{someBelow}
 use Rattle.lists.proofs.Tests.{otherwise, clash, or-none}
-use Rattle.quorum.specs.Family.{quorum}
+use Rattle.quorum.specs.Family.{quorum as quorumOf}
 use Rattle.quorum.specs.Limits.{upTo}
 use Rattle.plain.specs.Answer.{Answer, refused, answered}
 use Rattle.plain.specs.Delivery.{laneRefusal, deliveryRefusal}
@@ -122,13 +122,13 @@ pub record Releases (st : State) (s : ℕ) : Type 0 where
   pub quorum : ℕ
   pub units : ℕ
   pub holding : st .phase s ≡ Holding quorum units
-  pub room : someBelow (λ j. releasePasses st s quorum j) (st .n) ≡ false
+  pub room : someBelow (λ j. releasePasses (quorumOf (st .table) quorum) (st .up s) j) (st .n) ≡ false
 
 holder-passed : (st : State) (s : ℕ) (p : Phase) → holderRefusal st s p ≡ 0
-    → (q h : ℕ) × (p ≡ Holding q h) × (someBelow (λ j. releasePasses st s q j) (st .n) ≡ false)
+    → (q h : ℕ) × (p ≡ Holding q h) × (someBelow (λ j. releasePasses (quorumOf (st .table) q) (st .up s) j) (st .n) ≡ false)
 holder-passed st s Idle e = absurd (omega arith)
 holder-passed st s (Collecting q h m) e = absurd (omega arith)
-holder-passed st s (Holding q h) e = (q, h, refl, otherwise (someBelow (λ j. releasePasses st s q j) (st .n)) 14 0 (λ z. omega arith) e .0)
+holder-passed st s (Holding q h) e = (q, h, refl, otherwise (someBelow (λ j. releasePasses (quorumOf (st .table) q) (st .up s) j) (st .n)) 14 0 (λ z. omega arith) e .0)
 
 pub releases : (st : State) (s : ℕ) → releaseRefusal st s ≡ 0 → Releases st s
 unfolding releaseRefusal

@@ -1,19 +1,19 @@
 -- The lanes up of a station that gives back.
 -- Assumes nothing.
 use mathlib.Core.Bool.{true, false}
+use mathlib.Core.List.{List}
 use mathlib.Core.Path.{_≡_}
 use Prim.Native.Nat.{ℕ}
 use Rattle.stations.specs.Member.{member}
-use Rattle.quorum.specs.Family.{quorum}
 use Rattle.plain.specs.Lanes.{sent}
 use Rattle.plain.specs.Release.{releasing}
-use Rattle.plain.specs.State.{State}
+use Rattle.plain.specs.declared.Message.{Message}
 use Rattle.plain.specs.declared.Message.the-variants.{Release}
 
-pub releasing-member : (st : State) (s q j : ℕ) → member (quorum (st .table) q) j ≡ true → releasing st s q j ≡ sent (st .up s j) Release
+pub releasing-member : (q : ℕ) (lanes : ℕ → List Message) (j : ℕ) → member q j ≡ true → releasing q lanes j ≡ sent (lanes j) Release
 unfolding releasing
-releasing-member st s q j e = rw e
+releasing-member q lanes j e = rw e
 
-pub releasing-other : (st : State) (s q j : ℕ) → member (quorum (st .table) q) j ≡ false → releasing st s q j ≡ st .up s j
+pub releasing-other : (q : ℕ) (lanes : ℕ → List Message) (j : ℕ) → member q j ≡ false → releasing q lanes j ≡ lanes j
 unfolding releasing
-releasing-other st s q j e = rw e
+releasing-other q lanes j e = rw e

@@ -79,7 +79,7 @@ module _ (st : State) (s j : ℕ) (d : Delivers st s j (st .up s j) (upPasses st
   lane = rw (d .taken) at (g .ups s (d .station) j (d .arbiter))
 
   room : (passes linePlaces (arrivedAt st s j (d .message) .line) ≡ false)
-      × (someBelow (λ t. passes downPlaces (granting st j (servedAt st s j (d .message) .grants) t j)) (st .n) ≡ false)
+      × (someBelow (λ t. passes downPlaces (granting (st .down) j (servedAt st s j (d .message) .grants) t j)) (st .n) ≡ false)
   room = or-none _ _ (d .room)
 
   arbiter-in : arbiterIn (st .n) (st .stock) (servedAt st s j (d .message) .arbiter) ≡ true
@@ -89,7 +89,7 @@ module _ (st : State) (s j : ℕ) (d : Delivers st s j (st .up s j) (upPasses st
       (arrived-in (st .n) (st .stock) (d .message) s (st .arbiter j) (d .station) (keeps-first upPlaces (goesUp (st .stock)) (d .message) (d .rest) lane) (room .0)
       (arbiter-facts (st .n) (st .stock) (st .arbiter j) (g .arbiters j (d .arbiter)))))
 
-  granting-in : (t : ℕ) → t < st .n → (x : ℕ) → x < st .n → downLane (granting st j (servedAt st s j (d .message) .grants) t x) ≡ true
+  granting-in : (t : ℕ) → t < st .n → (x : ℕ) → x < st .n → downLane (granting (st .down) j (servedAt st s j (d .message) .grants) t x) ≡ true
   unfolding granting
   granting-in t l x b =
       by-cases (ℕ-discrete x j)
@@ -196,21 +196,21 @@ release-ranged st s r = rw (r .holding) (
       limits = b .limits;
       phases = λ t l. at-all (λ p. phaseIn (st .n) (st .stock) (st .table) p ≡ true) (st .phase) s Idle refl t (b .phases t l);
       arbiters = b .arbiters;
-      ups = λ t l j c. at-all (λ row. upLane (st .stock) (row j) ≡ true) (st .up) s (releasing st s (r .quorum)) (row j c) t (b .ups t l j c);
+      ups = λ t l j c. at-all (λ row. upLane (st .stock) (row j) ≡ true) (st .up) s (releasing (quorum (st .table) (r .quorum)) (st .up s)) (row j c) t (b .ups t l j c);
       downs = b .downs;
     })
   where
     b : Ranged st
     b = ranged st (r .range)
 
-    row : (j : ℕ) → j < st .n → upLane (st .stock) (releasing st s (r .quorum) j) ≡ true
+    row : (j : ℕ) → j < st .n → upLane (st .stock) (releasing (quorum (st .table) (r .quorum)) (st .up s) j) ≡ true
     row j c =
         ⊎-elim
         (λ (t : member (quorum (st .table) (r .quorum)) j ≡ true).
-        rw (releasing-member st s (r .quorum) j t)
+        rw (releasing-member (quorum (st .table) (r .quorum)) (st .up s) j t)
         (keeps-more upPlaces (goesUp (st .stock)) (st .up s j) (Release ∷ []) (b .ups s (r .station) j c) refl
-        (rw (t, releasing-member st s (r .quorum) j t) at (some-never (λ j. releasePasses st s (r .quorum) j) (st .n) (r .room) j c))))
-        (λ (f : member (quorum (st .table) (r .quorum)) j ≡ false). rw (releasing-other st s (r .quorum) j f) (b .ups s (r .station) j c))
+        (rw (t, releasing-member (quorum (st .table) (r .quorum)) (st .up s) j t) at (some-never (λ j. releasePasses (quorum (st .table) (r .quorum)) (st .up s) j) (st .n) (r .room) j c))))
+        (λ (f : member (quorum (st .table) (r .quorum)) j ≡ false). rw (releasing-other (quorum (st .table) (r .quorum)) (st .up s) j f) (b .ups s (r .station) j c))
         (known (member (quorum (st .table) (r .quorum)) j))
 
 -- ---- the theorem

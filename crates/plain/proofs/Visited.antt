@@ -46,7 +46,7 @@ grantedTo st s h i =
       phase = st .phase;
       arbiter = at (st .arbiter) i (record { granted = at (st .arbiter i .granted) s h; line = [] });
       up = at2 (st .up) s i [];
-      down = granting st i (record { station = s; units = h } ∷ []);
+      down = granting (st .down) i (record { station = s; units = h } ∷ []);
     }
 
 -- and the station has taken the GRANT
@@ -88,18 +88,18 @@ module _ (st : State) (was : ℕ → Phase) (s p h i : ℕ) (load : ℕ → ℕ)
   abbrev granted : State
   granted = grantedTo st s h i
 
-  grant-lane : granting st i (entry ∷ []) s i ≡ Grant ∷ []
+  grant-lane : granting (st .down) i (entry ∷ []) s i ≡ Grant ∷ []
   unfolding granting unitsIn entry
   grant-lane = rw (eq-eqb i i refl, eq-eqb s s refl, v .downs s i)
 
-  grant-others : (t j : ℕ) → (t ≡ s → j ≡ i → ⊥) → granting st i (entry ∷ []) t j ≡ []
+  grant-others : (t j : ℕ) → (t ≡ s → j ≡ i → ⊥) → granting (st .down) i (entry ∷ []) t j ≡ []
   unfolding granting unitsIn entry
   grant-others t j o =
       by-cases (ℕ-discrete j i)
       (λ (e : j ≡ i). rw (e, eq-eqb i i refl, ne-eqb s t (λ x. o (sym x) e), v .downs t i))
       (λ (d : j ≡ i → ⊥). rw (ne-eqb j i d) (v .downs t j))
 
-  short : (t : ℕ) → passes downPlaces (granting st i (entry ∷ []) t i) ≡ false
+  short : (t : ℕ) → passes downPlaces (granting (st .down) i (entry ∷ []) t i) ≡ false
   short t =
       by-cases (ℕ-discrete t s)
       (λ (e : t ≡ s). rw (e, grant-lane) refl)
@@ -155,8 +155,8 @@ module _ (st : State) (was : ℕ → Phase) (s p h i : ℕ) (load : ℕ → ℕ)
   range-visited : inRange (visited st s p h i) ≡ true
   range-visited = rw (sym down-done) (call-in-range granted (Call.Down s i) range-granted)
 
-  visited-downs : (t j : ℕ) → at2 (granting st i (entry ∷ [])) s i [] t j ≡ []
-  visited-downs t j = at2-all (λ lane. lane ≡ []) (granting st i (entry ∷ [])) s i [] refl t j (λ o. grant-others t j o)
+  visited-downs : (t j : ℕ) → at2 (granting (st .down) i (entry ∷ [])) s i [] t j ≡ []
+  visited-downs t j = at2-all (λ lane. lane ≡ []) (granting (st .down) i (entry ∷ [])) s i [] refl t j (λ o. grant-others t j o)
 
   visited-lines : (j : ℕ) → at (st .arbiter) i (after-service .arbiter) j .line ≡ []
   unfolding after-service

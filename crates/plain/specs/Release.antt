@@ -16,20 +16,20 @@ use Rattle.plain.specs.declared.Message.the-variants.{Release}
 use Rattle.plain.specs.declared.Phase.{Phase}
 use Rattle.plain.specs.declared.Phase.the-variants.{Idle, Collecting, Holding}
 
--- "RELEASE goes up to all members": the lanes up of station s, which held the quorum q
-unfoldable pub releasing : State → ℕ → ℕ → ℕ → List Message
-releasing st s q j = cond (member (quorum (st .table) q) j) (sent (st .up s j) Release) (st .up s j)
+-- "RELEASE goes up to all members": the lanes up of a station that held the quorum q
+unfoldable pub releasing : ℕ → (ℕ → List Message) → ℕ → List Message
+releasing q lanes j = cond (member q j) (sent (lanes j) Release) (lanes j)
 
 -- whether RELEASE goes up to j, and the lane would pass its limit with it
-abbrev pub releasePasses : State → ℕ → ℕ → ℕ → Bool
-releasePasses st s q j = member (quorum (st .table) q) j && passes upPlaces (releasing st s q j)
+abbrev pub releasePasses : ℕ → (ℕ → List Message) → ℕ → Bool
+releasePasses q lanes j = member q j && passes upPlaces (releasing q lanes j)
 
 -- 12 "station not holding"; 14 "a lane .. would pass its limit"
 abbrev pub holderRefusal : State → ℕ → Phase → ℕ
 holderRefusal st s Idle = 12
 holderRefusal st s (Collecting q h m) = 12
 holderRefusal st s (Holding q h) =
-    cond (someBelow (λ j. releasePasses st s q j) (st .n)) 14 0
+    cond (someBelow (λ j. releasePasses (quorum (st .table) q) (st .up s) j) (st .n)) 14 0
 
 -- 19; 8 "station or arbiter ≥ n"; 12; 14
 unfoldable pub releaseRefusal : State → ℕ → ℕ
@@ -46,7 +46,7 @@ released st s (Holding q h) =
       table = st .table;
       phase = at (st .phase) s Idle;
       arbiter = st .arbiter;
-      up = at (st .up) s (releasing st s q);
+      up = at (st .up) s (releasing (quorum (st .table) q) (st .up s));
       down = st .down;
     }
 

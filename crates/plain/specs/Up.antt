@@ -21,16 +21,16 @@ arrivedAt st s j m = arrived m s (st .arbiter j)
 abbrev pub servedAt : State → ℕ → ℕ → Message → Served
 servedAt st s j m = served (st .n) (st .stock) (arrivedAt st s j m)
 
--- "GRANT goes down the lane from j to that station": the lanes down, for the entries granted at j
-unfoldable pub granting : State → ℕ → List Entry → ℕ → ℕ → List Message
-granting st j grants t i = cond (eqb i j) (st .down t j ++ grantsTo t grants) (st .down t i)
+-- "GRANT goes down the lane from j to that station": the lanes down, with the entries granted at j
+unfoldable pub granting : (ℕ → ℕ → List Message) → ℕ → List Entry → ℕ → ℕ → List Message
+granting lanes j grants t i = cond (eqb i j) (lanes t j ++ grantsTo t grants) (lanes t i)
 
 -- "a lane or line would pass its limit, even for a moment within the call": the line is longest when the message has joined it, a lane
 -- down when all grants are in it
 abbrev pub upPasses : State → ℕ → ℕ → Message → Bool
 upPasses st s j m =
     passes linePlaces (arrivedAt st s j m .line)
-    || someBelow (λ t. passes downPlaces (granting st j (servedAt st s j m .grants) t j)) (st .n)
+    || someBelow (λ t. passes downPlaces (granting (st .down) j (servedAt st s j m .grants) t j)) (st .n)
 
 abbrev pub upRefusal : State → ℕ → ℕ → ℕ
 upRefusal st s j = deliveryRefusal st s j (st .up s j) (upPasses st s j)
@@ -46,7 +46,7 @@ delivered st s j (m ∷ rest) =
       phase = st .phase;
       arbiter = at (st .arbiter) j (servedAt st s j m .arbiter);
       up = at2 (st .up) s j rest;
-      down = granting st j (servedAt st s j m .grants);
+      down = granting (st .down) j (servedAt st s j m .grants);
     }
 
 -- Up(s, j)

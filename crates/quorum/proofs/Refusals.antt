@@ -2,9 +2,13 @@
 -- Assumes nothing.
 use mathlib.Core.Bool.{true, false, cond}
 use mathlib.Core.List.{List}
-use mathlib.Core.Path.{_≡_}
+use mathlib.Core.Logic.{⊎-elim}
+use mathlib.Core.Path.{_≡_, sym}
 use Prim.Native.Nat.{ℕ, _≤_, _<_}
-use borrow.Author.Tests.{eq-eqb, ne-eqb, lt-ltb, le-ltb}
+use lib.Dec.{eqb}
+use borrow.Author.Tests.{eq-eqb, ne-eqb, eqb-true, lt-ltb, le-ltb}
+use Rattle.lists.proofs.Tests.{known}
+use Rattle.quorum.specs.Answer.{answerTo}
 use Rattle.quorum.specs.Limits.{brokenLimit}
 use Rattle.quorum.specs.Nested.{nested}
 use Rattle.quorum.specs.Refusal.{refusal}
@@ -32,3 +36,15 @@ module _ (n k : ℕ) (table : List ℕ) (room : ℕ) where
     pub refusal-later : scratchBytes ≤ room → lacksCommon n k table ≡ false → refusal n k table room ≡ cond (nested table) 7 0
     unfolding refusal
     refusal-later enough has = rw (eq-eqb (brokenLimit n k table) 0 kept, le-ltb room scratchBytes enough, has)
+
+-- the answer says the refusal that the tests lead to
+pub answer-refusal : (n : ℕ) (table : List ℕ) (r : ℕ) → answerTo n table r .refusal ≡ r
+unfolding answerTo
+answer-refusal n table r =
+    ⊎-elim (λ (e : eqb r 0 ≡ true). rw e (sym (eqb-true r 0 e)))
+    (λ (d : eqb r 0 ≡ false).
+    ⊎-elim (λ (e : eqb r 6 ≡ true). rw (d, e) (sym (eqb-true r 6 e)))
+    (λ (d′ : eqb r 6 ≡ false).
+    ⊎-elim (λ (e : eqb r 7 ≡ true). rw (d, d′, e) (sym (eqb-true r 7 e))) (λ (d″ : eqb r 7 ≡ false). rw (d, d′, d″)) (known (eqb r 7)))
+    (known (eqb r 6)))
+    (known (eqb r 0))

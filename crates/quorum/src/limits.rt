@@ -38,7 +38,7 @@ pub fn up_to(most: usize, x: usize) -> bool
 }
 
 // The first of the limits 1 to 4 that is broken, 0 if none is.
-pub(crate) fn broken_limit(n: usize, k: usize, quorums: &[u16]) -> u8
+pub fn broken_limit(n: usize, k: usize, quorums: &[u16]) -> u8
     ensures { λ r. ⌜ r ≡ brokenLimit n k (now (quorums .entry)) ⌝ }
 {
     if !up_to(MOST_STATIONS, n) {

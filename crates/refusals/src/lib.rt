@@ -25,6 +25,24 @@ pub const NESTED: u8 = 7;
 // a station or arbiter from n on
 pub const NO_SUCH_STATION: u8 = 8;
 
+// request: no such quorum
+pub const NO_SUCH_QUORUM: u8 = 9;
+
+// request: units outside 1..k
+pub const BAD_UNITS: u8 = 10;
+
+// request: the station is not idle
+pub const NOT_IDLE: u8 = 11;
+
+// release: the station does not hold
+pub const NOT_HOLDING: u8 = 12;
+
+// up, down: the lane is empty
+pub const EMPTY_LANE: u8 = 13;
+
+// a lane or line would pass its limit
+pub const NO_PLACE: u8 = 14;
+
 // an output buffer too short
 pub const SHORT_BUFFER: u8 = 16;
 
@@ -33,3 +51,6 @@ pub const NO_CUBE: u8 = 17;
 
 // a ready-made table above 64 quorums
 pub const TOO_MANY_QUORUMS: u8 = 18;
+
+// a record out of range
+pub const OUT_OF_RANGE: u8 = 19;

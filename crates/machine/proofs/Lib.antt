@@ -1,0 +1,14 @@
+pub mod ServingLine
+pub mod SendingGrants
+pub mod ArrivingMessage
+pub mod Refusing
+pub mod RecordInRange
+pub mod DeliveringUp
+pub mod AskingMember
+pub mod ReceivingDown
+pub mod GoingOnward
+pub mod ReleasingRow
+pub mod GivingBack
+pub mod OpeningRecord
+pub mod Tracing
+pub mod Claim

@@ -1,0 +1,93 @@
+-- A record in which all is idle and empty stands for a fresh state.
+-- Assumes nothing.
+use mathlib.Core.List.{List, []}
+use mathlib.Core.Path.{_≡_, refl, sym, ap, _∙_}
+use Prim.Native.Nat.{ℕ}
+use lib.ListN.{replicate}
+use borrow.Author.Tests.{eq-eqb, ne-eqb}
+use Rattle.lists.specs.Cut.{cut}
+use Rattle.lists.proofs.Arrays.{shown-none, replicate-all}
+use Rattle.quorum.specs.Refusal.{refusal}
+use Rattle.plain.specs.State.{Arbiter as PlainArbiter, State, fresh}
+use Rattle.plain.specs.declared.Entry.{Entry}
+use Rattle.plain.specs.declared.Message.{Message}
+use Rattle.plain.specs.declared.Phase.{Phase}
+use Rattle.plain.specs.declared.Phase.the-variants.{Idle}
+use Rattle.records.specs.View.{noLane, noRow, noStation, noArbiter, laneOf, rowOf, lanesOf, phaseOf, phasesOf, grantedOf, emptyArbiter, arbiterOf, arbitersOf, view}
+use Rattle.records.specs.declared.Arbiter.{Arbiter}
+use Rattle.records.specs.declared.Lane.{Lane}
+use Rattle.records.specs.declared.Lanes.{Lanes}
+use Rattle.records.specs.declared.Record.{Record}
+use Rattle.records.specs.declared.Row.{Row}
+use Rattle.records.specs.declared.Slot.{Slot}
+use Rattle.records.specs.declared.Station.{Station}
+use Rattle.machine.specs.Opening.{Opening, emptyRecord, opening, openedOf}
+use Rattle.machine.specs.declared.Opened.{Opened}
+
+module _ (n : ℕ) where
+  empty-lane : (slots : List Slot) → laneOf (record { len = 0; slots = slots }) ≡ []
+  unfolding laneOf
+  empty-lane slots = refl
+
+  empty-row : (m : ℕ) (slots : List Slot) → rowOf n (record { lanes = replicate m (record { len = 0; slots = slots }) }) ≡ (λ j. [])
+  unfolding rowOf
+  empty-row m slots =
+      shown-none n [] laneOf noLane (replicate m (record { len = 0; slots = slots })) (λ j. replicate-all (λ (l : Lane). laneOf l ≡ []) (record { len = 0; slots = slots }) noLane (empty-lane slots) (empty-lane []) m j)
+
+  pub empty-lanes : (m : ℕ) (slots : List Slot) → lanesOf n (record { rows = replicate m (record { lanes = replicate m (record { len = 0; slots = slots }) }) }) ≡ (λ s j. [])
+  unfolding lanesOf
+  empty-lanes m slots =
+      shown-none n (λ j. []) (rowOf n) noRow (replicate m (record { lanes = replicate m (record { len = 0; slots = slots }) }))
+      (λ s. replicate-all (λ (w : Row). rowOf n w ≡ (λ j. [])) (record { lanes = replicate m (record { len = 0; slots = slots }) }) noRow (empty-row m slots) (empty-row 0 slots) m s)
+
+  idle-stations : (m : ℕ) → phasesOf n (replicate m (record { phase = Idle })) ≡ (λ s. Idle)
+  unfolding phasesOf
+  idle-stations m =
+      shown-none n Idle phaseOf noStation (replicate m noStation) (λ s. replicate-all (λ (x : Station). x .phase ≡ Idle) noStation noStation refl refl m s)
+
+  nothing-granted : (m : ℕ) → grantedOf n (replicate m 0) ≡ (λ s. 0)
+  unfolding grantedOf
+  nothing-granted m = shown-none n 0 (λ u. u) 0 (replicate m 0) (λ s. replicate-all (λ (u : ℕ). u ≡ 0) 0 0 refl refl m s)
+
+  empty-arbiter : (m : ℕ) (line : List Entry) → arbiterOf n (record { granted = replicate m 0; len = 0; line = line }) ≡ emptyArbiter
+  unfolding arbiterOf
+  empty-arbiter m line = ap (λ (g : ℕ → ℕ). record { granted = g; line = [] }) (nothing-granted m)
+
+  empty-arbiters : (m : ℕ) (line : List Entry) → arbitersOf n (replicate m (record { granted = replicate m 0; len = 0; line = line })) ≡ (λ j. emptyArbiter)
+  unfolding arbitersOf
+  empty-arbiters m line =
+      shown-none n emptyArbiter (arbiterOf n) noArbiter (replicate m (record { granted = replicate m 0; len = 0; line = line }))
+      (λ j. replicate-all (λ (a : Arbiter). arbiterOf n a ≡ emptyArbiter) (record { granted = replicate m 0; len = 0; line = line }) noArbiter (empty-arbiter m line) (empty-arbiter 0 []) m j)
+
+pub blank-fresh : (n k quorums : ℕ) (table : List ℕ) (m : ℕ) (line : List Entry) (lanes : Lanes) → lanesOf n lanes ≡ (λ s j. [])
+    → view
+    (record {
+      n = n;
+      stock = k;
+      quorums = quorums;
+      table = table;
+      stations = replicate m (record { phase = Idle });
+      arbiters = replicate m (record { granted = replicate m 0; len = 0; line = line });
+      up = lanes;
+      down = lanes;
+    })
+    ≡ fresh n k (cut 0 quorums table)
+unfolding view fresh
+blank-fresh n k quorums table m line lanes e = rw (idle-stations n m, empty-arbiters n m line, e)
+
+-- ---- what opening answers, from the refusal of the check
+
+module _ (n k : ℕ) (table : List ℕ) (room : ℕ) (opened : Opened) (said : opened .refusal ≡ refusal n k table room) where
+  pub opening-refused : (opened .refusal ≡ 0 → ⊥) → view (opened .«record») ≡ emptyRecord → openedOf opened ≡ opening n k table room
+  unfolding openedOf opening
+  opening-refused d e = rw (e, sym said, ne-eqb (opened .refusal) 0 d)
+
+  pub opening-fresh : opened .refusal ≡ 0 → view (opened .«record») ≡ fresh n k table → openedOf opened ≡ opening n k table room
+  unfolding openedOf opening
+  opening-fresh z e = rw (e, sym said, eq-eqb (opened .refusal) 0 z)
+
+-- and what its answer means where the check refuses nothing
+pub opened-fresh : (n k : ℕ) (table : List ℕ) (room : ℕ) (opened : Opened) → openedOf opened ≡ opening n k table room → refusal n k table room ≡ 0
+    → (opened .refusal ≡ 0) × (view (opened .«record») ≡ fresh n k table)
+unfolding openedOf opening
+opened-fresh n k table room opened e z = (ap (λ (o : Opening). o .refusal) e ∙ z, ap (λ (o : Opening). o .state) e ∙ rw (eq-eqb (refusal n k table room) 0 z))

@@ -1,0 +1,45 @@
+-- `machine::downs::onward` meets its contract. The lowest member above j, where there is one.
+-- Assumes nothing.
+use Rattle.stations.specs.Sets.{places, lowestFrom}
+use Prim.Native.Nat.{_<_, _+_}
+use mathlib.Core.Path.{refl}
+use borrow.Author.Tests.{lt-ltb}
+use Rattle.machine.proofs.GoingOnward.{lowest-below, onward-holds, onward-asks}
+use Rattle.plain.specs.Down.{onward}
+use native.Mathlib.Omega.{arith}
+use mathlib.Core.Path.{sym, ap, _∙_}
+use borrow.Author.Needs.{needs}
+use Rattle.machine.proofs.downs.onward.Statement.{statement}
+use Rattle.machine.proofs.downs.onward.Tie as tie
+use Rattle.machine.proofs.downs.onward.Reads as reads
+use Rattle.machine.proofs.downs.onward.Lts as lts
+use Rattle.stations.proofs.lowest_from.Reads as lowest-from-reads
+
+add-lowest-from : tie.Need-add-lowest-from
+add-lowest-from c = search needs
+
+lowest-from-requires : tie.Need-lowest-from-requires
+lowest-from-requires c κs = search needs
+
+returns : tie.Need-returns
+returns c =
+    let l = c .before in
+    let st = l .before in
+    (λ table e. sym (onward-holds table (st .args .quorum) (st .args .units) (st .args .j) (st .args .set) e (l .lowest-from .result) (l .lowest-from .ensures) (c .if1 .taken)), refl)
+
+cast-t9 : tie.Need-cast-t9
+cast-t9 c = search needs
+
+returns-2 : tie.Need-returns-2
+returns-2 c =
+    let l = c .before in
+    let st = l .before in
+    let found = l .lowest-from .ensures in
+    let small : lowestFrom (st .args .set) (st .args .j + 1) < places = omega (arith, found, c .if1 .left) in
+    let below : l .lowest-from .result < st .args .n = omega (arith, found, lowest-below (st .args .n) (st .args .set) (st .args .j + 1) (st .pre .0) small) in (
+      λ table e. sym (onward-asks table (st .args .quorum) (st .args .units) (st .args .j) (st .args .set) e (l .lowest-from .result) found (c .if1 .left)),
+      lt-ltb _ _ below,
+    )
+
+pub onward-spec : {M : Type 1} → statement M
+onward-spec = tie.close (tie.spec add-lowest-from lowest-from-requires returns cast-t9 returns-2)

@@ -1,0 +1,27 @@
+-- `machine::lanes::lane_at` meets its contract.
+-- Assumes nothing.
+use Rattle.records.proofs.Viewing.{lanes-at}
+use borrow.Author.Needs.{needs}
+use Rattle.machine.proofs.lanes.lane_at.Statement.{statement}
+use Rattle.machine.proofs.lanes.lane_at.Tie as tie
+use Rattle.machine.proofs.lanes.lane_at.Reads as reads
+use Rattle.machine.proofs.lanes.lane_at.Lts as lts
+
+mul-row : tie.Need-mul-row
+mul-row c = search needs
+
+element-copy-out-row : tie.Need-element-copy-out-row
+element-copy-out-row c = search needs
+
+mul-result : tie.Need-mul-result
+mul-result c = search needs
+
+element-copy-out-result : tie.Need-element-copy-out-result
+element-copy-out-result c = search needs
+
+returns : tie.Need-returns
+returns c = λ n p q. lanes-at n (c .before .before .args .t1) _ _ p q
+
+pub lane-at-spec : {M : Type 1} → statement M
+lane-at-spec =
+    tie.close (tie.spec mul-row element-copy-out-row mul-result element-copy-out-result returns)

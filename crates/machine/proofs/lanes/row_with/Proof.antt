@@ -1,0 +1,24 @@
+-- `machine::lanes::row_with` meets its contract.
+-- Assumes nothing.
+use native.Mathlib.Omega.{arith}
+use Rattle.records.proofs.Good.{lanes-of}
+use Rattle.records.proofs.Viewing.{row-with}
+use borrow.Author.Needs.{needs}
+use Rattle.machine.proofs.lanes.row_with.Statement.{statement}
+use Rattle.machine.proofs.lanes.row_with.Tie as tie
+use Rattle.machine.proofs.lanes.row_with.Reads as reads
+use Rattle.machine.proofs.lanes.row_with.Lts as lts
+
+mul-l : tie.Need-mul-l
+mul-l c = search needs
+
+element-set-from-l : tie.Need-element-set-from-l
+element-set-from-l c = search needs
+
+returns : tie.Need-returns
+returns c =
+    let long = lanes-of (c .args .w) _ (c .good .0) in
+    λ n h. row-with n (c .args .w) (c .args .j) (c .args .l) h (omega arith)
+
+pub row-with-spec : {M : Type 1} → statement M
+row-with-spec = tie.close (tie.spec mul-l element-set-from-l returns)

@@ -1,0 +1,83 @@
+-- `machine::open` meets its contract. The check first; what it refuses gets the empty record.
+-- Assumes nothing.
+use Rattle.machine.proofs.OpeningRecord.{opening-refused, opening-fresh}
+use Rattle.machine.specs.Opening.{Opening, opening, openedOf}
+use Rattle.plain.specs.State.{State}
+use Rattle.quorum.proofs.Refusals.{answer-refusal}
+use Rattle.quorum.proofs.LimitLaws.{Limits, limits-kept}
+use Rattle.quorum.proofs.Accepts.{passed}
+use Rattle.quorum.specs.Refusal.{refusal}
+use Rattle.quorum.specs.Answer.{Answer, said, answer}
+use borrow.Author.Tests.{eq-eqb, ne-eqb}
+use lib.ListN.{length}
+use mathlib.Core.Path.{_≡_}
+use mathlib.Core.List.{List}
+use Prim.Native.Nat.{ℕ}
+use native.Mathlib.Omega.{arith}
+use mathlib.Core.Path.{refl, sym, ap, _∙_}
+use borrow.Author.Needs.{needs}
+use Rattle.machine.proofs.open.Statement.{statement}
+use Rattle.machine.proofs.open.Tie as tie
+use Rattle.machine.proofs.open.Reads as reads
+use Rattle.machine.proofs.open.Lts as lts
+use Rattle.machine.proofs.opening.blank.Reads as blank-reads
+use Rattle.machine.proofs.opening.fresh.Reads as fresh-reads
+use Rattle.quorum.proofs.check.Reads as check-reads
+
+check-requires : tie.Need-check-requires
+check-requires c κs = search needs
+
+blank-requires : tie.Need-blank-requires
+blank-requires c κs = search needs
+
+same-length : tie.Need-same-length
+same-length c = search needs
+
+module _ (c : tie.After-check) where
+  abbrev start : tie.Start
+  start = c .before .before .before .before
+
+  abbrev table : List ℕ
+  table = start .args .quorums .now
+
+  abbrev room : ℕ
+  room = length (start .args .scratch .now)
+
+  -- the refusal that the check gives
+  refused : c .check .result .refusal ≡ refusal (start .args .n) (start .args .k) table room
+  unfolding said answer
+  refused = ap (λ (a : Answer). a .refusal) (c .check .ensures .0) ∙ answer-refusal (start .args .n) table (refusal (start .args .n) (start .args .k) table room)
+
+returns : tie.Need-returns
+returns c =
+    let a = c .before .before .before .before in
+    let st = start a in
+    (opening-refused (st .args .n) (st .args .k) (table a) (room a) _ (refused a) (c .before .if1 .taken) (c .blank .ensures), a .check .ensures .1)
+
+fresh-requires : tie.Need-fresh-requires
+fresh-requires c κs =
+    let a = c .before .before .before in
+    let st = start a in
+    let kept = limits-kept (st .args .n) (st .args .k) (table a) (passed (st .args .n) (st .args .k) (table a) (room a) (sym (refused a) ∙ c .if1 .left) .0 .limits) in
+    (kept .stations .1, kept .stock .1, kept .quorums .1)
+
+same-length-2 : tie.Need-same-length-2
+same-length-2 c = search needs
+
+returns-2 : tie.Need-returns-2
+returns-2 c =
+    let a = c .before .before .before .before in
+    let st = start a in
+    (opening-fresh (st .args .n) (st .args .k) (table a) (room a) _ (refused a) (c .before .if1 .left) (c .fresh .ensures), a .check .ensures .1)
+
+pub open-spec : {M : Type 1} → statement M
+open-spec =
+    tie.close
+    (tie.spec
+    check-requires
+    blank-requires
+    same-length
+    returns
+    fresh-requires
+    same-length-2
+    returns-2)

@@ -1,0 +1,20 @@
+-- `machine::opening::blank` meets its contract.
+-- Assumes nothing.
+use Rattle.machine.proofs.OpeningRecord.{blank-fresh}
+use borrow.Author.Needs.{needs}
+use Rattle.machine.proofs.opening.blank.Statement.{statement}
+use Rattle.machine.proofs.opening.blank.Tie as tie
+use Rattle.machine.proofs.opening.blank.Reads as reads
+use Rattle.machine.proofs.opening.blank.Lts as lts
+use Rattle.machine.proofs.opening.empty_lanes.Reads as empty-lanes-reads
+
+empty-lanes-requires : tie.Need-empty-lanes-requires
+empty-lanes-requires c κs = search needs
+
+returns : tie.Need-returns
+returns c =
+    let st = c .before in
+    blank-fresh (st .args .n) (st .args .stock) (st .args .quorums) (st .args .table) 12 _ (c .empty-lanes .result) (c .empty-lanes .ensures (st .args .n))
+
+pub blank-spec : {M : Type 1} → statement M
+blank-spec = tie.close (tie.spec empty-lanes-requires returns)

@@ -1,0 +1,71 @@
+-- `machine::opening::copied` meets its contract. The places before the one in hand have the quorums of their numbers.
+-- Assumes nothing.
+use Rattle.lists.proofs.Cuts.{cut-push, cut-more, cut-all}
+use Rattle.lists.specs.Cut.{cut}
+use native.Mathlib.Omega.{arith}
+use lib.ListN.{length, getD}
+use mathlib.Core.List.{List, _∷_, [], _++_}
+use Prim.Native.Nat.{ℕ, _≤_, _<_, _-_}
+use mathlib.Core.Path.{_≡_, refl, sym, ap, _∙_}
+use borrow.Author.Needs.{needs}
+use Rattle.machine.proofs.opening.copied.Statement.{statement}
+use Rattle.machine.proofs.opening.copied.Tie as tie
+use Rattle.machine.proofs.opening.copied.Reads as reads
+use Rattle.machine.proofs.opening.copied.Lts as lts
+
+abbrev Inv-loop : tie.InvT-loop
+Inv-loop quorums table₀ p₀ table p = (p ≤ length quorums) × (length table ≡ 64) × (cut 0 p table ≡ cut 0 p quorums)
+
+abbrev μ-loop : tie.MeasureT-loop
+μ-loop quorums table₀ p₀ table p = length quorums - p
+
+loop-holds : tie.Need-loop-holds Inv-loop μ-loop
+loop-holds c = (search needs, search needs, refl)
+
+mul-table : tie.Need-mul-table Inv-loop μ-loop
+mul-table c = search needs
+
+shared-slice-read-table : tie.Need-shared-slice-read-table Inv-loop μ-loop
+shared-slice-read-table c = search needs
+
+mul-table-2 : tie.Need-mul-table-2 Inv-loop μ-loop
+mul-table-2 c = search needs
+
+array-write-table : tie.Need-array-write-table Inv-loop μ-loop
+array-write-table c = search needs
+
+add-p : tie.Need-add-p Inv-loop μ-loop
+add-p c = search needs
+
+loop-less : tie.Need-loop-less Inv-loop μ-loop
+loop-less c = search needs
+
+loop-again : tie.Need-loop-again Inv-loop μ-loop
+loop-again c =
+    let l = c .before .before .loop in
+    let q = c .before .before .before .args .quorums .now in
+    let put = cut-push 0 (l .p) (l .table) (getD q (l .p) 0) (omega arith) in
+    (search needs, search needs, put ∙ ap (λ (xs : List ℕ). xs ++ (getD q (l .p) 0 ∷ [])) (l .inv .2) ∙ sym (cut-more 0 (l .p) q))
+
+returns : tie.Need-returns Inv-loop μ-loop
+returns c =
+    let l = c .before .loop in
+    let q = c .before .before .args .quorums .now in
+    let e : l .p ≡ length q = omega arith in
+    rw e at (l .inv .2) ∙ cut-all 0 q
+
+pub copied-spec : {M : Type 1} → statement M
+copied-spec =
+    tie.close
+    (tie.spec
+    Inv-loop
+    μ-loop
+    loop-holds
+    mul-table
+    shared-slice-read-table
+    mul-table-2
+    array-write-table
+    add-p
+    loop-less
+    loop-again
+    returns)

@@ -1,0 +1,36 @@
+-- `machine::release` meets its contract. 19 first.
+-- Assumes nothing.
+use Rattle.machine.proofs.RecordInRange.{ready}
+use Rattle.machine.proofs.Refusing.{release-19}
+use borrow.Author.Tests.{not-true, not-false}
+use mathlib.Core.Path.{sym, _∙_}
+use borrow.Author.Needs.{needs}
+use Rattle.machine.proofs.release.Statement.{statement}
+use Rattle.machine.proofs.release.Tie as tie
+use Rattle.machine.proofs.release.Reads as reads
+use Rattle.machine.proofs.release.Lts as lts
+use Rattle.machine.proofs.refuse.Reads as refuse-reads
+use Rattle.machine.proofs.releases.release_in_range.Reads as release-in-range-reads
+use Rattle.records.proofs.in_range.Reads as in-range-reads
+
+in-range-requires : tie.Need-in-range-requires
+in-range-requires c κs = search needs
+
+refuse-requires : tie.Need-refuse-requires
+refuse-requires c κs = search needs
+
+returns : tie.Need-returns
+returns c =
+    let i = c .before .before in
+    (c .refuse .ensures .0 ∙ sym (release-19 _ _ (sym (i .in-range .ensures) ∙ not-true _ (c .before .if1 .taken))), λ z. c .refuse .ensures .1)
+
+release-in-range-requires : tie.Need-release-in-range-requires
+release-in-range-requires c κs = ready (c .before .before .args .r) (sym (c .before .in-range .ensures) ∙ not-false _ (c .if1 .left))
+
+returns-2 : tie.Need-returns-2
+returns-2 c = (c .release-in-range .ensures .0, c .release-in-range .ensures .1)
+
+pub release-spec : {M : Type 1} → statement M
+release-spec =
+    tie.close
+    (tie.spec in-range-requires refuse-requires returns release-in-range-requires returns-2)

@@ -1,0 +1,4 @@
+pub mod Ready
+pub mod Answers
+pub mod Takings
+pub mod Opening

@@ -1,0 +1,3 @@
+pub mod Good
+pub mod Viewing
+pub mod Ranging

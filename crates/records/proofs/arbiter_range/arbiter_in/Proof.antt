@@ -1,0 +1,40 @@
+-- `records::arbiter_range::arbiter_in` meets its contract. The length of the line is tested first, so that no entry past the array is read.
+-- Assumes nothing.
+use Rattle.records.proofs.Ranging.{arbiter-long, arbiter-grants, arbiter-line}
+use mathlib.Core.Bool.{and-false}
+use borrow.Author.Tests.{lt-leb, le-leb, not-true, not-false}
+use mathlib.Core.Path.{_≡_, refl, sym, _∙_}
+use borrow.Author.Needs.{needs}
+use Rattle.records.proofs.arbiter_range.arbiter_in.Statement.{statement}
+use Rattle.records.proofs.arbiter_range.arbiter_in.Tie as tie
+use Rattle.records.proofs.arbiter_range.arbiter_in.Reads as reads
+use Rattle.records.proofs.arbiter_range.arbiter_in.Lts as lts
+use Rattle.records.proofs.arbiter_range.grants_in.Reads as grants-in-reads
+use Rattle.records.proofs.arbiter_range.line_in.Reads as line-in-reads
+
+cast-len : tie.Need-cast-len
+cast-len c = search needs
+
+returns : tie.Need-returns
+returns c = sym (arbiter-long _ _ (c .before .before .args .a) (c .if1 .taken))
+
+grants-in-requires : tie.Need-grants-in-requires
+grants-in-requires c κs = search needs
+
+returns-2 : tie.Need-returns-2
+returns-2 c =
+    let st = c .before .before .before .before .before in
+    sym (arbiter-grants _ _ (st .args .a) (sym (c .before .grants-in .ensures) ∙ not-true _ (c .if2 .taken)))
+
+line-in-requires : tie.Need-line-in-requires
+line-in-requires c κs = search needs
+
+returns-3 : tie.Need-returns-3
+returns-3 c =
+    let g = c .before .before in
+    let f = g .before .before .before in
+    c .line-in .ensures ∙ sym (arbiter-line _ _ (f .before .before .args .a) (f .if1 .left) (sym (g .before .grants-in .ensures) ∙ not-false _ (g .if2 .left)))
+
+pub arbiter-in-spec : {M : Type 1} → statement M
+arbiter-in-spec =
+    tie.close (tie.spec cast-len returns grants-in-requires returns-2 line-in-requires returns-3)

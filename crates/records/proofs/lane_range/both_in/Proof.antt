@@ -1,0 +1,25 @@
+-- `records::lane_range::both_in` meets its contract. Lanes up first.
+-- Assumes nothing.
+use mathlib.Core.Path.{sym, _∙_}
+use borrow.Author.Tests.{not-true, not-false}
+use borrow.Author.Needs.{needs}
+use Rattle.records.proofs.lane_range.both_in.Statement.{statement}
+use Rattle.records.proofs.lane_range.both_in.Tie as tie
+use Rattle.records.proofs.lane_range.both_in.Reads as reads
+use Rattle.records.proofs.lane_range.both_in.Lts as lts
+use Rattle.records.proofs.lane_range.lanes_in.Reads as lanes-in-reads
+
+lanes-in-requires : tie.Need-lanes-in-requires
+lanes-in-requires c κs = search needs
+
+returns : tie.Need-returns
+returns c = rw (sym (c .before .lanes-in .ensures) ∙ not-true _ (c .if1 .taken))
+
+lanes-in-requires-2 : tie.Need-lanes-in-requires-2
+lanes-in-requires-2 c κs = search needs
+
+returns-2 : tie.Need-returns-2
+returns-2 c = rw (sym (c .before .before .lanes-in .ensures) ∙ not-false _ (c .before .if1 .left)) (c .lanes-in2 .ensures)
+
+pub both-in-spec : {M : Type 1} → statement M
+both-in-spec = tie.close (tie.spec lanes-in-requires returns lanes-in-requires-2 returns-2)

@@ -1,0 +1,52 @@
+-- `records::limits::limits_kept` meets its contract. A length past the array is no table's; otherwise the quorums are lent as a part of the array.
+-- Assumes nothing.
+use lib.Seq.{length-take-le}
+use Prim.Native.Nat.{ℕ}
+use mathlib.Core.List.{List}
+use mathlib.Core.Path.{_≡_}
+use Prim.Native.Nat.{min, _≤_}
+use lib.ListN.{length, length-take}
+use Rattle.records.proofs.Ranging.{too-many-quorums}
+use Rattle.quorum.specs.Limits.{brokenLimit}
+use Rattle.lists.proofs.Cuts.{cut-take}
+use lib.ListN.{length-take}
+use lib.Dec.{eqb}
+use native.Mathlib.Omega.{arith}
+use mathlib.Core.Path.{sym, ap, _∙_}
+use borrow.Author.Needs.{needs}
+use Rattle.records.proofs.limits.limits_kept.Statement.{statement}
+use Rattle.records.proofs.limits.limits_kept.Tie as tie
+use Rattle.records.proofs.limits.limits_kept.Reads as reads
+use Rattle.records.proofs.limits.limits_kept.Lts as lts
+use Rattle.quorum.proofs.limits.broken_limit.Reads as broken-limit-reads
+
+returns : tie.Need-returns
+returns c = sym (too-many-quorums _ _ _ _ (c .if1 .taken))
+
+array-share-prefix-table : tie.Need-array-share-prefix-table
+array-share-prefix-table c = search needs
+
+slice-aggregate-broken-limit : tie.Need-slice-aggregate-broken-limit
+slice-aggregate-broken-limit c =
+    let st = c .before .before in
+    let h : st .args .quorums ≤ length (st .args .t4) = omega arith in
+    sym (length-take-le (st .args .quorums) (st .args .t4) h)
+
+broken-limit-requires : tie.Need-broken-limit-requires
+broken-limit-requires c κs = search needs
+
+returns-2 : tie.Need-returns-2
+returns-2 c =
+    let st = c .before .before .before in
+    let h : st .args .quorums ≤ length (st .args .t4) = omega arith in
+    ap (λ (b : ℕ). eqb b 0) (c .broken-limit .ensures ∙ ap (λ (l : List ℕ). brokenLimit (st .args .n) (st .args .k) l) (sym (cut-take 0 (st .args .quorums) (st .args .t4) h)))
+
+pub limits-kept-spec : {M : Type 1} → statement M
+limits-kept-spec =
+    tie.close
+    (tie.spec
+    returns
+    array-share-prefix-table
+    slice-aggregate-broken-limit
+    broken-limit-requires
+    returns-2)

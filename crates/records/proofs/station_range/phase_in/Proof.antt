@@ -1,0 +1,61 @@
+-- `records::station_range::phase_in` meets its contract. One case for each phase.
+-- Assumes nothing.
+use mathlib.Core.Bool.{and-false, and-true}
+use borrow.Author.Tests.{le-ltb, lt-ltb}
+use Rattle.plain.specs.InRange.{phaseIn}
+use borrow.Author.Needs.{needs}
+use Rattle.records.proofs.station_range.phase_in.Statement.{statement}
+use Rattle.records.proofs.station_range.phase_in.Tie as tie
+use Rattle.records.proofs.station_range.phase_in.Reads as reads
+use Rattle.records.proofs.station_range.phase_in.Lts as lts
+use Rattle.records.proofs.station_range.wish_in.Reads as wish-in-reads
+
+enum-told : tie.Need-enum-told
+enum-told c = search needs
+
+enum-known-p : tie.Need-enum-known-p
+enum-known-p c = search needs
+
+cast-if1 : tie.Need-cast-if1
+cast-if1 c = search needs
+
+returns : tie.Need-returns
+unfolding phaseIn
+returns c = λ table e. rw (c .before .before .p .given .1, le-ltb _ _ (c .if1 .taken), and-false _, and-false _)
+
+wish-in-requires : tie.Need-wish-in-requires
+wish-in-requires c κs = search needs
+
+enum-known-p-2 : tie.Need-enum-known-p-2
+enum-known-p-2 c = search needs
+
+wish-in-requires-2 : tie.Need-wish-in-requires-2
+wish-in-requires-2 c κs = search needs
+
+returns-2 : tie.Need-returns-2
+unfolding phaseIn
+returns-2 c = λ table e. rw (c .enum-told .given .1)
+
+returns-3 : tie.Need-returns-3
+unfolding phaseIn
+returns-3 c =
+    λ table e. rw (c .before .before .before .p .given .1, lt-ltb _ _ (c .before .if1 .left), and-true _, e) (c .wish-in .ensures)
+
+returns-4 : tie.Need-returns-4
+unfolding phaseIn
+returns-4 c = λ table e. rw (c .before .before .p2 .given .1, e) (c .wish-in2 .ensures)
+
+pub phase-in-spec : {M : Type 1} → statement M
+phase-in-spec =
+    tie.close
+    (tie.spec
+    enum-told
+    enum-known-p
+    cast-if1
+    returns
+    wish-in-requires
+    enum-known-p-2
+    wish-in-requires-2
+    returns-2
+    returns-3
+    returns-4)
