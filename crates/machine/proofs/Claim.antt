@@ -10,7 +10,6 @@ use Rattle.quorum.specs.Limits.{brokenLimit}
 use Rattle.quorum.specs.Scratch.{scratchBytes}
 use Rattle.quorum.specs.Width.{lacksCommon}
 use Rattle.quorum.proofs.Accepts.{passes}
-use Rattle.plain.specs.Answer.{Answer as PlainAnswer}
 use Rattle.plain.specs.Exceeding.{exceeding}
 use Rattle.plain.specs.Run.{Call, run, Difference}
 use Rattle.plain.specs.State.{State, fresh}
@@ -20,15 +19,12 @@ use Rattle.records.specs.View.{view}
 use Rattle.records.specs.declared.Record.{Record}
 use Rattle.machine.specs.Answers.{answerOf}
 use Rattle.machine.specs.Opening.{opening}
+use Rattle.machine.specs.Performing.{Within}
 use Rattle.machine.specs.declared.Answer.{Answer}
 use Rattle.machine.specs.declared.Opened.{Opened}
 use Rattle.machine.proofs.OpeningRecord.{opened-fresh}
 use Rattle.machine.proofs.Tracing.{Trace, trace-runs}
 use Rattle.machine.proofs.open.Reads as open-reads
-
--- the difference of a list of answers is in 0..k
-abbrev pub Within : ℕ → List PlainAnswer → Type 0
-Within k answers = (d : ℕ) × (d ≤ k) × Difference answers d
 
 module _ (n k : ℕ) (table : List ℕ) where
   -- (a) from any fresh record of the table, whatever its unused places hold, every answer that the program's functions give to a list of

@@ -10,5 +10,9 @@ pub mod GoingOnward
 pub mod ReleasingRow
 pub mod GivingBack
 pub mod OpeningRecord
+pub mod PerformingCalls
+pub mod GoingOn
+pub mod PerformingList
+pub mod LendingArbiter
 pub mod Tracing
 pub mod Claim

@@ -8,14 +8,14 @@ use Rattle.lists.specs.At.{at2}
 use Rattle.lists.specs.Cut.{cut}
 use Rattle.quorum.specs.Family.{quorum}
 use Rattle.quorum.specs.Limits.{mostStations, mostUnits, mostQuorums}
-use Rattle.plain.specs.InRange.{inRange}
+use Rattle.plain.specs.InRange.{goesUp, arbiterIn, inRange}
 use Rattle.plain.specs.Lanes.{downPlaces, linePlaces}
 use Rattle.plain.specs.Request.{isIdle}
 use Rattle.plain.specs.declared.Entry.{Entry}
 use Rattle.plain.specs.declared.Message.{Message}
 use Rattle.plain.specs.declared.Phase.{Phase}
 use Rattle.plain.specs.declared.Phase.the-variants.{Collecting}
-use Rattle.records.specs.View.{noEntry, view}
+use Rattle.records.specs.View.{noEntry, arbiterOf, view}
 use Rattle.records.specs.declared.Arbiter.{Arbiter}
 use Rattle.records.specs.declared.Record.{Record}
 
@@ -76,3 +76,9 @@ pub record Receives (r : Record) (s j : ℕ) (rest : ℕ → ℕ → List Messag
 -- a station that collects works with a quorum of the table, which names no station from n on
 abbrev pub Wishes : ℕ → List ℕ → Phase → Type 0
 Wishes n table p = (q h m : ℕ) → p ≡ Collecting q h m → (q < length table) × (quorum table q < 2 ^ n)
+
+-- a lent arbiter's call has passed 2, 19, 8 and 10
+pub record Lends (a : Arbiter) (k s : ℕ) (m : Message) : Type 0 where
+  pub range : arbiterIn mostStations k (arbiterOf mostStations a) ≡ true
+  pub station : s < mostStations
+  pub goes : goesUp k m ≡ true

@@ -1,21 +1,31 @@
 // The machine that the stations run, on a record by value.
 ghost use mathlib.Core.Path.{_≡_};
-ghost use Prim.Native.Nat.{_<_};
+ghost use mathlib.Core.List.{List};
+ghost use Prim.Native.Nat.{ℕ, _<_};
 ghost use lib.ListN.{length};
 ghost use Rattle.plain.specs.Answer.{refused as refusedBy};
 ghost use Rattle.plain.specs.Down.{down as downOf};
 ghost use Rattle.plain.specs.Release.{release as releaseOf};
 ghost use Rattle.plain.specs.Request.{request as requestOf};
 ghost use Rattle.plain.specs.Up.{up as upOf};
+ghost use Rattle.plain.specs.Run.{run};
+ghost use Rattle.plain.specs.State.{fresh};
+ghost use Rattle.quorum.specs.Accepted.{Accepted};
 ghost use Rattle.quorum.specs.Scratch.{cleaned};
-ghost use Rattle.records.specs.View.{view};
+ghost use Rattle.quorum.specs.Limits.{mostStations};
+ghost use Rattle.records.specs.View.{arbiterOf, view};
 ghost use Rattle.machine.specs.Answers.{answerOf};
+ghost use Rattle.machine.specs.Lent.{lending, lentOf};
 ghost use Rattle.machine.specs.Opening.{opening, openedOf};
+ghost use Rattle.machine.specs.Performing.{callsOf, performance, performedOf, answersIn, Within};
+use records::Arbiter;
 use records::Record;
 
+mod call_lists;
 mod delivery;
 mod downs;
 mod lanes;
+mod lending;
 mod opening;
 mod releases;
 mod requests;
@@ -29,6 +39,45 @@ pub struct Answer {
     pub entered: u8,
     pub left: u8,
     pub record: Record,
+}
+
+// A lent list of calls has four numbers a call: what to do, the station, the quorum of a request or the arbiter of up and down (0 in a
+// release), and the units of a request (0 otherwise). Its answers are three numbers a call: refusal, units entered, units left.
+pub const CALL_NUMBERS: usize = 4;
+
+pub const ANSWER_NUMBERS: usize = 3;
+
+pub const DO_REQUEST: u16 = 0;
+
+pub const DO_UP: u16 = 1;
+
+pub const DO_DOWN: u16 = 2;
+
+pub const DO_RELEASE: u16 = 3;
+
+// What a list of calls answers besides the numbers: whether the list was refused, and the record after it.
+pub struct Performed {
+    pub refusal: u8,
+    pub record: Record,
+}
+
+// What a station sends up to an arbiter.
+pub enum Upward {
+    Request(usize),
+    Release,
+}
+
+// A message that reaches a lent arbiter: the stock, the station that sent it, and the message.
+pub struct Incoming {
+    pub stock: usize,
+    pub station: usize,
+    pub message: Upward,
+}
+
+// What the call on a lent arbiter answers: the refusal, and the set of stations granted.
+pub struct Reply {
+    pub refusal: u8,
+    pub granted: u16,
 }
 
 // What opening answers.
@@ -121,4 +170,41 @@ pub fn release(r: Record, s: usize) -> Answer
         return refuse(r, refusals::OUT_OF_RANGE);
     }
     releases::release_in_range(r, s)
+}
+
+// A lent list of calls, each on the record that the one before returned, and their answers in a lent buffer. A list that is not of the form
+// (15), or whose answers find no room (16), is refused as a whole.
+pub fn perform(r: Record, calls: &[u16], answers: &mut [u16]) -> Performed
+    ensures performed { λ p. ⌜ performedOf p ≡ performance (view r) (now (calls .entry)) (length (now (answers .entry))) ⌝ }
+    ensures refused { λ p. ⌜ (0 < p .refusal → p .«record» ≡ r) ⌝ }
+    ensures answers { λ _. ⌜ now (answers .exit) ≡ answersIn (view r) (now (calls .entry)) (now (answers .entry)) ⌝ }
+    ensures claim { λ _. ⌜ ((n k : ℕ) (table : List ℕ) → Accepted n k table → view r ≡ fresh n k table → Within k (run (fresh n k table) (callsOf (now (calls .entry))))) ⌝ }
+{
+    if !call_lists::all_formed(calls) {
+        return Performed {
+            refusal: refusals::BAD_FORM,
+            record: r,
+        };
+    }
+    if answers.len() / ANSWER_NUMBERS < calls.len() / CALL_NUMBERS {
+        return Performed {
+            refusal: refusals::SHORT_BUFFER,
+            record: r,
+        };
+    }
+    let record = call_lists::run(r, calls, answers);
+    Performed {
+        refusal: refusals::NO_REFUSAL,
+        record,
+    }
+}
+
+// A station lends its own arbiter's record to one call for each message that reaches it. The call applies the arbiter's part of Up and
+// answers the set of stations granted; a refusal answers the empty set and changes nothing.
+pub fn tell(a: &mut Arbiter, i: Incoming) -> Reply
+    ensures { λ r. ⌜ (lentOf r (now (a .exit)) ≡ lending (i .stock) (i .station) (i .message) (arbiterOf mostStations (now (a .entry)))) × (0 < r .refusal → now (a .exit) ≡ now (a .entry)) ⌝ }
+{
+    let settled = lending::settle(*a, i);
+    *a = settled.arbiter;
+    settled.reply
 }

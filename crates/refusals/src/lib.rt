@@ -43,6 +43,9 @@ pub const EMPTY_LANE: u8 = 13;
 // a lane or line would pass its limit
 pub const NO_PLACE: u8 = 14;
 
+// a journal text, a record or a call not of the form
+pub const BAD_FORM: u8 = 15;
+
 // an output buffer too short
 pub const SHORT_BUFFER: u8 = 16;
 

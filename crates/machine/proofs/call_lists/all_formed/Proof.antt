@@ -1,0 +1,112 @@
+-- `machine::call_lists::all_formed` meets its contract. The calls before the one in hand are of the form.
+-- Assumes nothing.
+use Rattle.machine.proofs.PerformingCalls.{well-formed-next, well-formed-end}
+use Rattle.machine.specs.Performing.{formed, wellFormed}
+use borrow.Author.Tests.{not-true, not-false}
+use native.Mathlib.Omega.{arith}
+use lib.ListN.{length, drop, getD}
+use Prim.Native.Nat.{ℕ, _≤_, _<_, _+_, _-_}
+use mathlib.Core.Path.{_≡_, refl, sym, ap, _∙_}
+use mathlib.Core.Bool.{Bool, true, false, _&&_}
+use borrow.Author.Needs.{needs}
+use Rattle.machine.proofs.call_lists.all_formed.Statement.{statement}
+use Rattle.machine.proofs.call_lists.all_formed.Tie as tie
+use Rattle.machine.proofs.call_lists.all_formed.Reads as reads
+use Rattle.machine.proofs.call_lists.all_formed.Lts as lts
+use Rattle.machine.proofs.call_lists.is_formed.Reads as is-formed-reads
+
+abbrev Inv-loop : tie.InvT-loop
+Inv-loop calls len i₀ i = (i ≤ len) × (wellFormed calls ≡ wellFormed (drop i calls))
+
+abbrev μ-loop : tie.MeasureT-loop
+μ-loop calls len i₀ i = len - i
+
+loop-holds : tie.Need-loop-holds Inv-loop μ-loop
+loop-holds c = (search needs, refl)
+
+sub-loop : tie.Need-sub-loop Inv-loop μ-loop
+sub-loop c = search needs
+
+mul-is-formed : tie.Need-mul-is-formed Inv-loop μ-loop
+mul-is-formed c = search needs
+
+shared-slice-read-is-formed : tie.Need-shared-slice-read-is-formed Inv-loop μ-loop
+shared-slice-read-is-formed c = search needs
+
+add-is-formed : tie.Need-add-is-formed Inv-loop μ-loop
+add-is-formed c = search needs
+
+mul-is-formed-2 : tie.Need-mul-is-formed-2 Inv-loop μ-loop
+mul-is-formed-2 c = search needs
+
+shared-slice-read-is-formed-2 : tie.Need-shared-slice-read-is-formed-2 Inv-loop μ-loop
+shared-slice-read-is-formed-2 c = search needs
+
+add-is-formed-2 : tie.Need-add-is-formed-2 Inv-loop μ-loop
+add-is-formed-2 c = search needs
+
+mul-is-formed-3 : tie.Need-mul-is-formed-3 Inv-loop μ-loop
+mul-is-formed-3 c = search needs
+
+shared-slice-read-is-formed-3 : tie.Need-shared-slice-read-is-formed-3 Inv-loop μ-loop
+shared-slice-read-is-formed-3 c = search needs
+
+is-formed-requires : tie.Need-is-formed-requires Inv-loop μ-loop
+is-formed-requires c κs = search needs
+
+module _ (c : tie.After-is-formed Inv-loop μ-loop) where
+  abbrev turn : tie.At-loop Inv-loop μ-loop
+  turn = c .before .before .before .before .before
+
+  abbrev start : tie.Start Inv-loop μ-loop
+  start = turn .before .before
+
+  abbrev rest : Bool
+  rest = wellFormed (drop (turn .loop .i + 4) (start .args .calls .now))
+
+  next : wellFormed (start .args .calls .now) ≡ (c .is-formed .result && rest)
+  next =
+      turn .loop .inv .1
+      ∙ well-formed-next (start .args .calls .now) (turn .loop .i) (omega arith)
+      ∙ ap (λ (b : Bool). b && rest) (sym (c .is-formed .ensures))
+
+returns : tie.Need-returns Inv-loop μ-loop
+returns c = sym (next (c .before) ∙ ap (λ (b : Bool). b && rest (c .before)) (not-true (c .before .is-formed .result) (c .if1 .taken)))
+
+add-i : tie.Need-add-i Inv-loop μ-loop
+add-i c = search needs
+
+loop-less : tie.Need-loop-less Inv-loop μ-loop
+loop-less c = search needs
+
+loop-again : tie.Need-loop-again Inv-loop μ-loop
+loop-again c = (search needs, next (c .before) ∙ ap (λ (b : Bool). b && rest (c .before)) (not-false (c .before .is-formed .result) (c .if1 .left)))
+
+returns-2 : tie.Need-returns-2 Inv-loop μ-loop
+returns-2 c =
+    let l = c .before in
+    let st = l .before .before in
+    sym (l .loop .inv .1 ∙ well-formed-end (st .args .calls .now) (l .loop .i) (l .loop .inv .0) (omega arith))
+
+pub all-formed-spec : {M : Type 1} → statement M
+all-formed-spec =
+    tie.close
+    (tie.spec
+    Inv-loop
+    μ-loop
+    loop-holds
+    sub-loop
+    mul-is-formed
+    shared-slice-read-is-formed
+    add-is-formed
+    mul-is-formed-2
+    shared-slice-read-is-formed-2
+    add-is-formed-2
+    mul-is-formed-3
+    shared-slice-read-is-formed-3
+    is-formed-requires
+    returns
+    add-i
+    loop-less
+    loop-again
+    returns-2)

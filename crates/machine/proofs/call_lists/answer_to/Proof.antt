@@ -1,0 +1,64 @@
+-- `machine::call_lists::answer_to` meets its contract.
+-- Assumes nothing.
+use Rattle.machine.proofs.PerformingCalls.{call-request, call-up, call-down, call-release}
+use Rattle.records.specs.View.{view}
+use Rattle.plain.specs.Run.{call}
+use mathlib.Core.Path.{sym, ap, _∙_}
+use borrow.Author.Needs.{needs}
+use Rattle.machine.proofs.call_lists.answer_to.Statement.{statement}
+use Rattle.machine.proofs.call_lists.answer_to.Tie as tie
+use Rattle.machine.proofs.call_lists.answer_to.Reads as reads
+use Rattle.machine.proofs.call_lists.answer_to.Lts as lts
+use Rattle.machine.proofs.down.Reads as down-reads
+use Rattle.machine.proofs.release.Reads as release-reads
+use Rattle.machine.proofs.request.Reads as request-reads
+use Rattle.machine.proofs.up.Reads as up-reads
+
+request-requires : tie.Need-request-requires
+request-requires c κs = search needs
+
+returns : tie.Need-returns
+unfolding call
+returns c =
+    let st = c .before .before in
+    c .request .ensures .0 ∙ sym (ap (call (view (st .args .r))) (call-request _ _ _ _ (c .before .if1 .taken)))
+
+up-requires : tie.Need-up-requires
+up-requires c κs = search needs
+
+returns-2 : tie.Need-returns-2
+unfolding call
+returns-2 c =
+    let st = c .before .before .before in
+    c .up .ensures .0 ∙ sym (ap (call (view (st .args .r))) (call-up _ _ _ _ (c .before .if2 .taken)))
+
+down-requires : tie.Need-down-requires
+down-requires c κs = search needs
+
+returns-3 : tie.Need-returns-3
+unfolding call
+returns-3 c =
+    let st = c .before .before .before .before in
+    c .down .ensures .0 ∙ sym (ap (call (view (st .args .r))) (call-down _ _ _ _ (c .before .if3 .taken)))
+
+release-requires : tie.Need-release-requires
+release-requires c κs = search needs
+
+returns-4 : tie.Need-returns-4
+unfolding call
+returns-4 c =
+    let st = c .before .before .before .before in
+    c .release .ensures .0 ∙ sym (ap (call (view (st .args .r))) (call-release (st .args .what) (st .args .with) (st .args .units) (st .args .station) (c .before .before .before .if1 .left) (c .before .before .if2 .left) (c .before .if3 .left)))
+
+pub answer-to-spec : {M : Type 1} → statement M
+answer-to-spec =
+    tie.close
+    (tie.spec
+    request-requires
+    returns
+    up-requires
+    returns-2
+    down-requires
+    returns-3
+    release-requires
+    returns-4)

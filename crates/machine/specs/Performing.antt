@@ -1,0 +1,65 @@
+-- A lent list of calls, as numbers, and the numbers that answer it.
+use mathlib.Core.Bool.{Bool, true, false, cond, not, _&&_, _||_}
+use mathlib.Core.List.{List, [], _∷_, _++_}
+use Prim.Native.Nat.{ℕ, _*_, _≤_}
+use lib.Dec.{eqb, ltb}
+use lib.ListN.{length, drop}
+use Rattle.plain.specs.Answer.{Answer}
+use Rattle.plain.specs.Run.{Call, run, after, Difference}
+use Rattle.plain.specs.State.{State}
+use Rattle.records.specs.View.{view}
+use Rattle.machine.specs.declared.Performed.{Performed}
+
+-- A call is four numbers: `do` (0 request, 1 up, 2 down, 3 release), `station`, `with` and `units`. "`with` is the quorum of a request,
+-- the arbiter of up and down, 0 in a release. `units` is 0 except in a request."
+unfoldable pub formed : ℕ → ℕ → ℕ → Bool
+formed what w h = eqb what 0 || (eqb h 0 && (eqb what 1 || (eqb what 2 || (eqb what 3 && eqb w 0))))
+
+-- four numbers a call, each call of the form
+unfoldable pub wellFormed : List ℕ → Bool
+wellFormed [] = true
+wellFormed (what ∷ []) = false
+wellFormed (what ∷ s ∷ []) = false
+wellFormed (what ∷ s ∷ w ∷ []) = false
+wellFormed (what ∷ s ∷ w ∷ h ∷ rest) = formed what w h && wellFormed rest
+
+unfoldable pub callOf : ℕ → ℕ → ℕ → ℕ → Call
+callOf what s w h =
+    cond (eqb what 0) (Call.Request s w h) (cond (eqb what 1) (Call.Up s w) (cond (eqb what 2) (Call.Down s w) (Call.Release s)))
+
+unfoldable pub callsOf : List ℕ → List Call
+callsOf [] = []
+callsOf (what ∷ []) = []
+callsOf (what ∷ s ∷ []) = []
+callsOf (what ∷ s ∷ w ∷ []) = []
+callsOf (what ∷ s ∷ w ∷ h ∷ rest) = callOf what s w h ∷ callsOf rest
+
+-- an answer is three numbers: refusal, units entered, units left
+unfoldable pub wordsOf : List Answer → List ℕ
+wordsOf [] = []
+wordsOf (a ∷ answers) = a .refusal ∷ a .entered ∷ a .left ∷ wordsOf answers
+
+-- 15 where a call is "not of the form", 16 where the answers find no room ("15 before 16"); then no call is made
+unfoldable pub listRefusal : List ℕ → ℕ → ℕ
+listRefusal calls room = cond (not (wellFormed calls)) 15 (cond (ltb room (3 * length (callsOf calls))) 16 0)
+
+-- the refusal of the list, and the record after it
+pub record Performance : Type 0 where
+  pub refusal : ℕ
+  pub state : State
+
+unfoldable pub performance : State → List ℕ → ℕ → Performance
+performance st calls room = record { refusal = listRefusal calls room; state = cond (eqb (listRefusal calls room) 0) (after st (callsOf calls)) st }
+
+-- the lent answers: those of the plain machine, one for one, and what lies beyond them
+unfoldable pub answersIn : State → List ℕ → List ℕ → List ℕ
+answersIn st calls out =
+    cond (eqb (listRefusal calls (length out)) 0) (wordsOf (run st (callsOf calls)) ++ drop (3 * length (callsOf calls)) out) out
+
+-- what the code's answer says
+unfoldable pub performedOf : Performed → Performance
+performedOf p = record { refusal = p .refusal; state = view (p .«record») }
+
+-- "units entered less units left stay in 0..k"
+abbrev pub Within : ℕ → List Answer → Type 0
+Within k answers = (d : ℕ) × (d ≤ k) × Difference answers d
