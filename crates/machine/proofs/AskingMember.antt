@@ -1,9 +1,9 @@
 -- Request on a record in range, from the facts that its parts give.
 -- Assumes nothing.
 use mathlib.Core.Bool.{true, false}
-use mathlib.Core.List.{List, _∷_, []}
-use mathlib.Core.Path.{_≡_, refl, sym, ap, _∙_}
-use Prim.Native.Nat.{ℕ, _+_, _≤_, _<_}
+use mathlib.Core.List.{_∷_, []}
+use mathlib.Core.Path.{_≡_, sym, ap, _∙_}
+use Prim.Native.Nat.{ℕ, _≤_, _<_}
 use native.Mathlib.Omega.{arith}
 use lib.ListN.{length, getD, set, length-append}
 use borrow.Author.Tests.{le-leb, lt-ltb, le-ltb}
@@ -11,9 +11,7 @@ use Rattle.lists.specs.At.{at, at2}
 use Rattle.lists.proofs.Cuts.{length-cut}
 use Rattle.lists.proofs.Tests.{and-both}
 use Rattle.stations.specs.Sets.{lowestFrom}
-use Rattle.quorum.specs.Limits.{brokenLimit, upTo}
 use Rattle.plain.specs.Answer.{refused}
-use Rattle.plain.specs.InRange.{inRange}
 use Rattle.plain.specs.Lanes.{upPlaces, passes, sent}
 use Rattle.plain.specs.Request.{lowest, requested, request}
 use Rattle.plain.specs.State.{State}
@@ -22,12 +20,12 @@ use Rattle.plain.specs.declared.Message.the-variants.{Request}
 use Rattle.plain.specs.declared.Phase.the-variants.{Collecting}
 use Rattle.plain.proofs.Approaching.{first-member}
 use Rattle.plain.proofs.Range.{ranged}
-use Rattle.records.specs.View.{laneOf, lanesOf, phasesOf, tableOf, view}
+use Rattle.records.specs.View.{laneOf, lanesOf, tableOf, view}
 use Rattle.records.specs.declared.Lane.{Lane}
 use Rattle.records.specs.declared.Lanes.{Lanes}
 use Rattle.records.specs.declared.Record.{Record}
 use Rattle.records.proofs.Viewing.{lane-length, quorum-at, phases-with}
-use Rattle.machine.specs.Ready.{Ready, Asks}
+use Rattle.machine.specs.Ready.{Asks}
 use Rattle.machine.proofs.Refusing.{Asked, request-14, request-done}
 
 -- a lane with one message more, and its limit

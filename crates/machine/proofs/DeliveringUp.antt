@@ -2,15 +2,13 @@
 -- Assumes nothing.
 use mathlib.Core.Bool.{Bool, true, false}
 use mathlib.Core.List.{List, _∷_}
-use mathlib.Core.Path.{_≡_, refl, sym, ap, _∙_}
-use Prim.Native.Nat.{ℕ, _≤_, _<_}
-use native.Mathlib.Omega.{arith}
+use mathlib.Core.Path.{_≡_, ap, _∙_}
+use Prim.Native.Nat.{ℕ, _<_}
 use lib.ListN.{length, getD, set}
 use Rattle.lists.specs.At.{at, at2}
 use Rattle.lists.specs.Search.{someBelow}
 use Rattle.lists.proofs.Tests.{or-left, or-right}
-use Rattle.quorum.specs.Limits.{mostStations}
-use Rattle.plain.specs.Answer.{Answer, refused}
+use Rattle.plain.specs.Answer.{refused}
 use Rattle.plain.specs.Arbiter.{arrived, Served, served}
 use Rattle.plain.specs.InRange.{inRange}
 use Rattle.plain.specs.Lanes.{downPlaces, linePlaces, passes}

@@ -1,10 +1,9 @@
 -- Release on a record in range, from the facts that its parts give.
 -- Assumes nothing.
 use mathlib.Core.Bool.{Bool, true, false}
-use mathlib.Core.Path.{_≡_, refl, sym, ap, _∙_}
+use mathlib.Core.Path.{_≡_, ap, _∙_}
 use Prim.Native.Nat.{ℕ, _<_}
 use lib.ListN.{length, getD, set}
-use Rattle.lists.specs.At.{at}
 use Rattle.lists.specs.Search.{someBelow}
 use Rattle.plain.specs.Answer.{refused}
 use Rattle.plain.specs.InRange.{inRange}

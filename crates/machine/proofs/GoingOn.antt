@@ -15,7 +15,7 @@ use borrow.Author.Tests.{eqb-true}
 use Rattle.lists.proofs.Joined.{sets-append, sets-front}
 use Rattle.lists.proofs.Tests.{and-right}
 use Rattle.plain.specs.Answer.{Answer}
-use Rattle.plain.specs.Run.{Call, call, run, after}
+use Rattle.plain.specs.Run.{call, run, after}
 use Rattle.plain.specs.State.{State}
 use Rattle.machine.specs.Performing.{formed, wellFormed, callOf, callsOf, wordsOf}
 use Rattle.machine.proofs.PerformingCalls.{well-formed-next, calls-next, well-formed-end, calls-length}

@@ -8,16 +8,13 @@ use borrow.Author.Tests.{eq-eqb, ne-eqb}
 use Rattle.lists.specs.Cut.{cut}
 use Rattle.lists.proofs.Arrays.{shown-none, replicate-all}
 use Rattle.quorum.specs.Refusal.{refusal}
-use Rattle.plain.specs.State.{Arbiter as PlainArbiter, State, fresh}
+use Rattle.plain.specs.State.{fresh}
 use Rattle.plain.specs.declared.Entry.{Entry}
-use Rattle.plain.specs.declared.Message.{Message}
-use Rattle.plain.specs.declared.Phase.{Phase}
 use Rattle.plain.specs.declared.Phase.the-variants.{Idle}
 use Rattle.records.specs.View.{noLane, noRow, noStation, noArbiter, laneOf, rowOf, lanesOf, phaseOf, phasesOf, grantedOf, emptyArbiter, arbiterOf, arbitersOf, view}
 use Rattle.records.specs.declared.Arbiter.{Arbiter}
 use Rattle.records.specs.declared.Lane.{Lane}
 use Rattle.records.specs.declared.Lanes.{Lanes}
-use Rattle.records.specs.declared.Record.{Record}
 use Rattle.records.specs.declared.Row.{Row}
 use Rattle.records.specs.declared.Slot.{Slot}
 use Rattle.records.specs.declared.Station.{Station}

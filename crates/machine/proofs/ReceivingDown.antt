@@ -1,14 +1,14 @@
 -- Down on a record in range, from the facts that its parts give: the station asks, holds or drops the GRANT.
 -- Assumes nothing.
 use mathlib.Core.Bool.{true, false}
-use mathlib.Core.List.{List, _∷_}
-use mathlib.Core.Path.{_≡_, refl, sym, ap, _∙_}
+use mathlib.Core.List.{List}
+use mathlib.Core.Path.{_≡_, refl, ap, _∙_}
 use Prim.Native.Nat.{ℕ, _≤_, _<_}
 use lib.ListN.{length, set}
 use Rattle.lists.specs.At.{at2}
 use Rattle.plain.specs.Answer.{Answer, refused}
 use Rattle.plain.specs.Down.{Taken, takenAt, enters, downPasses, receivedAs, received, down}
-use Rattle.plain.specs.Lanes.{upPlaces, passes, sent}
+use Rattle.plain.specs.Lanes.{upPlaces, sent}
 use Rattle.plain.specs.State.{State}
 use Rattle.plain.specs.declared.Message.{Message}
 use Rattle.plain.specs.declared.Message.the-variants.{Request}

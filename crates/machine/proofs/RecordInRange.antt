@@ -2,7 +2,7 @@
 -- Assumes nothing.
 use mathlib.Core.Bool.{true}
 use mathlib.Core.List.{List, _∷_}
-use mathlib.Core.Path.{_≡_, refl, sym, ap, _∙_}
+use mathlib.Core.Path.{_≡_}
 use Prim.Native.Nat.{ℕ, _≤_, _<_}
 use native.Mathlib.Omega.{arith}
 use lib.Dec.{ltb}
@@ -10,10 +10,8 @@ use lib.ListN.{length, getD}
 use borrow.Author.Tests.{ltb-true}
 use Rattle.lists.proofs.Cuts.{length-cut}
 use Rattle.lists.proofs.Tests.{and-left}
-use Rattle.quorum.specs.Family.{quorum}
-use Rattle.quorum.specs.Limits.{mostStations, upTo}
 use Rattle.quorum.proofs.LimitLaws.{Limits, limits-kept}
-use Rattle.plain.specs.InRange.{goesUp, goesDown, upLane, downLane, phaseIn, arbiterIn, inRange}
+use Rattle.plain.specs.InRange.{goesUp, goesDown, phaseIn, arbiterIn, inRange}
 use Rattle.plain.specs.Lanes.{upPlaces, downPlaces}
 use Rattle.plain.specs.declared.Message.{Message}
 use Rattle.plain.specs.declared.Phase.the-variants.{Collecting, Holding}

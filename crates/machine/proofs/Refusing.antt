@@ -7,21 +7,19 @@ use Prim.Native.Nat.{ℕ, _≤_, _<_}
 use lib.ListN.{length}
 use borrow.Author.Tests.{le-leb, lt-leb}
 use Rattle.lists.specs.Search.{someBelow}
-use Rattle.lists.proofs.Tests.{or-left, or-right}
 use Rattle.quorum.specs.Family.{quorum as quorumOf}
 use Rattle.quorum.specs.Limits.{upTo}
 use Rattle.plain.specs.Answer.{Answer, refused, answered}
 use Rattle.plain.specs.Delivery.{laneRefusal, deliveryRefusal}
-use Rattle.plain.specs.Down.{takenAt, enters, downPasses, downRefusal, received, down}
+use Rattle.plain.specs.Down.{takenAt, enters, downPasses, received, down}
 use Rattle.plain.specs.InRange.{inRange}
 use Rattle.plain.specs.Lanes.{upPlaces, passes, sent}
-use Rattle.plain.specs.Release.{releasePasses, holderRefusal, releaseRefusal, released, held, release}
+use Rattle.plain.specs.Release.{releasePasses, releaseRefusal, released, release}
 use Rattle.plain.specs.Request.{isIdle, lowest, requestRefusal, requested, request}
 use Rattle.plain.specs.State.{State}
-use Rattle.plain.specs.Up.{upPasses, upRefusal, delivered, up}
+use Rattle.plain.specs.Up.{upPasses, delivered, up}
 use Rattle.plain.specs.declared.Message.{Message}
 use Rattle.plain.specs.declared.Message.the-variants.{Request}
-use Rattle.plain.specs.declared.Phase.{Phase}
 use Rattle.plain.specs.declared.Phase.the-variants.{Idle, Collecting, Holding}
 
 -- the answer of a call that is done

@@ -1,7 +1,7 @@
 -- The loop that serves a line, at entry i: what was granted before it, and what service makes of the rest.
 -- Assumes nothing.
 use mathlib.Core.List.{List, [], _∷_, _++_, append-nil, append-assoc}
-use mathlib.Core.Path.{_≡_, refl, sym, ap, _∙_}
+use mathlib.Core.Path.{_≡_, sym, ap}
 use Prim.Native.Nat.{ℕ, _+_, _≤_, _<_}
 use lib.ListN.{length, getD, drop, set}
 use borrow.Author.Tests.{le-leb, lt-leb}

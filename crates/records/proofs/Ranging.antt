@@ -2,22 +2,22 @@
 -- Assumes nothing.
 use mathlib.Core.Bool.{Bool, true, false, not, _&&_, and-false}
 use mathlib.Core.List.{List}
-use mathlib.Core.Path.{_≡_, refl, sym, ap, _∙_}
+use mathlib.Core.Path.{_≡_, refl, _∙_}
 use Prim.Native.Nat.{ℕ, _≤_, _<_}
+use native.Mathlib.Omega.{arith}
 use lib.Dec.{leb, eqb}
-use lib.ListN.{length, getD, length-map}
+use lib.ListN.{getD}
 use borrow.Author.Tests.{ne-eqb, le-leb, lt-leb}
 use Rattle.lists.specs.Cut.{cut}
 use Rattle.lists.specs.Search.{all, everyBelow}
 use Rattle.lists.proofs.Arrays.{every-shown}
 use Rattle.lists.proofs.Cuts.{length-cut, all-cut}
 use Rattle.lists.proofs.Searches.{all-map, every-false}
-use Rattle.plain.specs.InRange.{goesUp, goesDown, entryIn, arbiterIn, phaseIn}
-use Rattle.plain.specs.declared.Message.the-variants.{Release, Grant}
 use Rattle.quorum.specs.Limits.{mostQuorums, brokenLimit}
 use Rattle.quorum.proofs.LimitLaws.{limits-kept}
-use native.Mathlib.Omega.{arith}
+use Rattle.plain.specs.InRange.{goesUp, goesDown, entryIn, arbiterIn, phaseIn}
 use Rattle.plain.specs.Lanes.{linePlaces, keeps}
+use Rattle.plain.specs.declared.Message.the-variants.{Release, Grant}
 use Rattle.records.specs.Ranges.{goes, lanePlaces, laneIn, rowIn, lanesIn}
 use Rattle.records.specs.View.{noSlot, noLane, noRow, noEntry, noStation, noArbiter, messageOf, laneOf, rowOf, lanesOf, phasesOf, grantedOf, arbiterOf, arbitersOf}
 use Rattle.records.specs.declared.Arbiter.{Arbiter}

@@ -1,7 +1,7 @@
 -- What a load reads and what a store changes, seen as the plain machine's state.
 -- Assumes nothing.
-use mathlib.Core.List.{List, [], _∷_, _++_, map}
-use mathlib.Core.Path.{_≡_, refl, sym, ap, _∙_}
+use mathlib.Core.List.{List, [], _∷_, map}
+use mathlib.Core.Path.{_≡_, sym, ap, _∙_}
 use Prim.Native.Nat.{ℕ, zero, suc, _+_, _-_, _≤_, _<_}
 use native.Mathlib.Nat.{not-suc-le-zero}
 use native.Mathlib.Numerals.{sub-one}
@@ -12,9 +12,9 @@ use Rattle.lists.specs.Cut.{cut}
 use Rattle.lists.proofs.Arrays.{shown-in, shown-set}
 use Rattle.lists.proofs.Cuts.{length-cut, cut-push, cut-within, getD-cut}
 use Rattle.lists.proofs.Joined.{map-append}
+use Rattle.quorum.specs.Family.{quorum}
 use Rattle.plain.specs.Lanes.{sent}
 use Rattle.plain.specs.declared.Message.{Message}
-use Rattle.quorum.specs.Family.{quorum}
 use Rattle.records.specs.View.{noSlot, noLane, noRow, noStation, noArbiter, messageOf, laneOf, rowOf, lanesOf, phaseOf, phasesOf, grantedOf, arbiterOf, arbitersOf, tableOf}
 use Rattle.records.specs.declared.Arbiter.{Arbiter}
 use Rattle.records.specs.declared.Lane.{Lane}

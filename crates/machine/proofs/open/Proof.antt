@@ -1,28 +1,18 @@
 -- `machine::open` meets its contract. The check first; what it refuses gets the empty record.
 -- Assumes nothing.
-use Rattle.machine.proofs.OpeningRecord.{opening-refused, opening-fresh}
-use Rattle.machine.specs.Opening.{Opening, opening, openedOf}
-use Rattle.plain.specs.State.{State}
-use Rattle.quorum.proofs.Refusals.{answer-refusal}
-use Rattle.quorum.proofs.LimitLaws.{Limits, limits-kept}
-use Rattle.quorum.proofs.Accepts.{passed}
-use Rattle.quorum.specs.Refusal.{refusal}
-use Rattle.quorum.specs.Answer.{Answer, said, answer}
-use borrow.Author.Tests.{eq-eqb, ne-eqb}
-use lib.ListN.{length}
-use mathlib.Core.Path.{_≡_}
 use mathlib.Core.List.{List}
+use mathlib.Core.Path.{_≡_, sym, ap, _∙_}
 use Prim.Native.Nat.{ℕ}
-use native.Mathlib.Omega.{arith}
-use mathlib.Core.Path.{refl, sym, ap, _∙_}
+use lib.ListN.{length}
 use borrow.Author.Needs.{needs}
+use Rattle.quorum.specs.Answer.{Answer, said, answer}
+use Rattle.quorum.specs.Refusal.{refusal}
+use Rattle.quorum.proofs.Accepts.{passed}
+use Rattle.quorum.proofs.LimitLaws.{limits-kept}
+use Rattle.quorum.proofs.Refusals.{answer-refusal}
+use Rattle.machine.proofs.OpeningRecord.{opening-refused, opening-fresh}
 use Rattle.machine.proofs.open.Statement.{statement}
 use Rattle.machine.proofs.open.Tie as tie
-use Rattle.machine.proofs.open.Reads as reads
-use Rattle.machine.proofs.open.Lts as lts
-use Rattle.machine.proofs.opening.blank.Reads as blank-reads
-use Rattle.machine.proofs.opening.fresh.Reads as fresh-reads
-use Rattle.quorum.proofs.check.Reads as check-reads
 
 check-requires : tie.Need-check-requires
 check-requires c κs = search needs

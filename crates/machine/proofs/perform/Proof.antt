@@ -1,25 +1,16 @@
 -- `machine::perform` meets its contract. Refused as a whole, or performed; the bound is that of the plain machine.
 -- Assumes nothing.
-use Rattle.machine.specs.declared.Performed.{Performed}
-use Rattle.machine.specs.Performing.{wellFormed, callsOf, Within}
-use Rattle.plain.specs.State.{State}
-use Rattle.plain.specs.Run.{run}
-use Rattle.records.specs.View.{view}
-use lib.ListN.{length}
-use mathlib.Core.Bool.{true}
-use mathlib.Core.Path.{_≡_, ap}
-use Rattle.plain.proofs.Bound.{bounded}
-use Rattle.machine.proofs.PerformingList.{refusal-15, refusal-16, enough, refusal-none, refused-list, done-list}
-use borrow.Author.Tests.{not-true, not-false}
 use mathlib.Core.Path.{refl, sym, _∙_}
 use native.Mathlib.Omega.{arith}
+use lib.ListN.{length}
 use borrow.Author.Needs.{needs}
+use borrow.Author.Tests.{not-true, not-false}
+use Rattle.plain.proofs.Bound.{bounded}
+use Rattle.records.specs.View.{view}
+use Rattle.machine.specs.Performing.{callsOf}
+use Rattle.machine.proofs.PerformingList.{refusal-15, refusal-16, enough, refusal-none, refused-list, done-list}
 use Rattle.machine.proofs.perform.Statement.{statement}
 use Rattle.machine.proofs.perform.Tie as tie
-use Rattle.machine.proofs.perform.Reads as reads
-use Rattle.machine.proofs.perform.Lts as lts
-use Rattle.machine.proofs.call_lists.all_formed.Reads as all-formed-reads
-use Rattle.machine.proofs.call_lists.run.Reads as run-reads
 
 all-formed-requires : tie.Need-all-formed-requires
 all-formed-requires c κs = search needs

@@ -1,12 +1,9 @@
 -- `machine::refuse` meets its contract.
 -- Assumes nothing.
-use Rattle.machine.specs.Answers.{answerOf}
 use mathlib.Core.Path.{refl}
-use borrow.Author.Needs.{needs}
+use Rattle.machine.specs.Answers.{answerOf}
 use Rattle.machine.proofs.refuse.Statement.{statement}
 use Rattle.machine.proofs.refuse.Tie as tie
-use Rattle.machine.proofs.refuse.Reads as reads
-use Rattle.machine.proofs.refuse.Lts as lts
 
 returns : tie.Need-returns
 unfolding answerOf

@@ -1,17 +1,12 @@
 -- `machine::request` meets its contract. 19 first.
 -- Assumes nothing.
-use Rattle.machine.proofs.RecordInRange.{ready}
-use Rattle.machine.proofs.Refusing.{request-19}
-use borrow.Author.Tests.{not-true, not-false}
 use mathlib.Core.Path.{sym, _∙_}
 use borrow.Author.Needs.{needs}
+use borrow.Author.Tests.{not-true, not-false}
+use Rattle.machine.proofs.RecordInRange.{ready}
+use Rattle.machine.proofs.Refusing.{request-19}
 use Rattle.machine.proofs.request.Statement.{statement}
 use Rattle.machine.proofs.request.Tie as tie
-use Rattle.machine.proofs.request.Reads as reads
-use Rattle.machine.proofs.request.Lts as lts
-use Rattle.machine.proofs.refuse.Reads as refuse-reads
-use Rattle.machine.proofs.requests.request_in_range.Reads as request-in-range-reads
-use Rattle.records.proofs.in_range.Reads as in-range-reads
 
 in-range-requires : tie.Need-in-range-requires
 in-range-requires c κs = search needs

@@ -1,17 +1,12 @@
 -- `machine::up` meets its contract. 19 first.
 -- Assumes nothing.
-use Rattle.machine.proofs.RecordInRange.{ready}
-use Rattle.machine.proofs.Refusing.{up-delivery, delivery-19}
-use borrow.Author.Tests.{not-true, not-false}
 use mathlib.Core.Path.{sym, _∙_}
 use borrow.Author.Needs.{needs}
+use borrow.Author.Tests.{not-true, not-false}
+use Rattle.machine.proofs.RecordInRange.{ready}
+use Rattle.machine.proofs.Refusing.{up-delivery, delivery-19}
 use Rattle.machine.proofs.up.Statement.{statement}
 use Rattle.machine.proofs.up.Tie as tie
-use Rattle.machine.proofs.up.Reads as reads
-use Rattle.machine.proofs.up.Lts as lts
-use Rattle.machine.proofs.refuse.Reads as refuse-reads
-use Rattle.machine.proofs.ups.up_in_range.Reads as up-in-range-reads
-use Rattle.records.proofs.in_range.Reads as in-range-reads
 
 in-range-requires : tie.Need-in-range-requires
 in-range-requires c κs = search needs

@@ -1,12 +1,9 @@
 -- `records::arbiter_in_range` meets its contract. More than twelve stations are no arbiter's.
 -- Assumes nothing.
-use borrow.Author.Tests.{lt-leb, le-leb}
 use borrow.Author.Needs.{needs}
+use borrow.Author.Tests.{lt-leb, le-leb}
 use Rattle.records.proofs.arbiter_in_range.Statement.{statement}
 use Rattle.records.proofs.arbiter_in_range.Tie as tie
-use Rattle.records.proofs.arbiter_in_range.Reads as reads
-use Rattle.records.proofs.arbiter_in_range.Lts as lts
-use Rattle.records.proofs.arbiter_range.arbiter_in.Reads as arbiter-in-reads
 
 returns : tie.Need-returns
 returns c = rw (lt-leb _ _ (c .if1 .taken))

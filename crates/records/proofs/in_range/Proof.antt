@@ -1,27 +1,19 @@
 -- `records::in_range` meets its contract. The parts in document 01's order; the limits come first, so that the others know n.
 -- Assumes nothing.
-use Rattle.records.specs.declared.Record.{Record}
-use Rattle.quorum.proofs.LimitLaws.{limits-kept}
-use Rattle.quorum.specs.Limits.{mostStations, brokenLimit}
-use Rattle.lists.proofs.Cuts.{length-cut}
-use borrow.Author.Tests.{eqb-true}
-use lib.Dec.{eqb}
-use Prim.Native.Nat.{_≤_}
 use mathlib.Core.Bool.{true}
-use mathlib.Core.Path.{_≡_}
-use Rattle.records.specs.View.{view, tableOf}
-use Rattle.plain.specs.InRange.{inRange}
-use mathlib.Core.Path.{sym, _∙_}
-use borrow.Author.Tests.{not-true, not-false}
+use mathlib.Core.Path.{_≡_, sym, _∙_}
+use Prim.Native.Nat.{_≤_}
+use lib.Dec.{eqb}
 use borrow.Author.Needs.{needs}
+use borrow.Author.Tests.{eqb-true, not-true, not-false}
+use Rattle.lists.proofs.Cuts.{length-cut}
+use Rattle.quorum.specs.Limits.{mostStations, brokenLimit}
+use Rattle.quorum.proofs.LimitLaws.{limits-kept}
+use Rattle.plain.specs.InRange.{inRange}
+use Rattle.records.specs.View.{view, tableOf}
+use Rattle.records.specs.declared.Record.{Record}
 use Rattle.records.proofs.in_range.Statement.{statement}
 use Rattle.records.proofs.in_range.Tie as tie
-use Rattle.records.proofs.in_range.Reads as reads
-use Rattle.records.proofs.in_range.Lts as lts
-use Rattle.records.proofs.arbiter_range.arbiters_in.Reads as arbiters-in-reads
-use Rattle.records.proofs.lane_range.both_in.Reads as both-in-reads
-use Rattle.records.proofs.limits.limits_kept.Reads as limits-kept-reads
-use Rattle.records.proofs.station_range.stations_in.Reads as stations-in-reads
 
 cast-n : tie.Need-cast-n
 cast-n c = search needs

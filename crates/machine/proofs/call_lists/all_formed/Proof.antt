@@ -1,19 +1,16 @@
 -- `machine::call_lists::all_formed` meets its contract. The calls before the one in hand are of the form.
 -- Assumes nothing.
-use Rattle.machine.proofs.PerformingCalls.{well-formed-next, well-formed-end}
-use Rattle.machine.specs.Performing.{formed, wellFormed}
-use borrow.Author.Tests.{not-true, not-false}
-use native.Mathlib.Omega.{arith}
-use lib.ListN.{length, drop, getD}
-use Prim.Native.Nat.{ℕ, _≤_, _<_, _+_, _-_}
+use mathlib.Core.Bool.{Bool, _&&_}
 use mathlib.Core.Path.{_≡_, refl, sym, ap, _∙_}
-use mathlib.Core.Bool.{Bool, true, false, _&&_}
+use Prim.Native.Nat.{_≤_, _+_, _-_}
+use native.Mathlib.Omega.{arith}
+use lib.ListN.{drop}
 use borrow.Author.Needs.{needs}
+use borrow.Author.Tests.{not-true, not-false}
+use Rattle.machine.specs.Performing.{wellFormed}
+use Rattle.machine.proofs.PerformingCalls.{well-formed-next, well-formed-end}
 use Rattle.machine.proofs.call_lists.all_formed.Statement.{statement}
 use Rattle.machine.proofs.call_lists.all_formed.Tie as tie
-use Rattle.machine.proofs.call_lists.all_formed.Reads as reads
-use Rattle.machine.proofs.call_lists.all_formed.Lts as lts
-use Rattle.machine.proofs.call_lists.is_formed.Reads as is-formed-reads
 
 abbrev Inv-loop : tie.InvT-loop
 Inv-loop calls len i₀ i = (i ≤ len) × (wellFormed calls ≡ wellFormed (drop i calls))

@@ -1,18 +1,12 @@
 -- `machine::call_lists::answer_to` meets its contract.
 -- Assumes nothing.
-use Rattle.machine.proofs.PerformingCalls.{call-request, call-up, call-down, call-release}
-use Rattle.records.specs.View.{view}
-use Rattle.plain.specs.Run.{call}
 use mathlib.Core.Path.{sym, ap, _∙_}
 use borrow.Author.Needs.{needs}
+use Rattle.plain.specs.Run.{call}
+use Rattle.records.specs.View.{view}
+use Rattle.machine.proofs.PerformingCalls.{call-request, call-up, call-down, call-release}
 use Rattle.machine.proofs.call_lists.answer_to.Statement.{statement}
 use Rattle.machine.proofs.call_lists.answer_to.Tie as tie
-use Rattle.machine.proofs.call_lists.answer_to.Reads as reads
-use Rattle.machine.proofs.call_lists.answer_to.Lts as lts
-use Rattle.machine.proofs.down.Reads as down-reads
-use Rattle.machine.proofs.release.Reads as release-reads
-use Rattle.machine.proofs.request.Reads as request-reads
-use Rattle.machine.proofs.up.Reads as up-reads
 
 request-requires : tie.Need-request-requires
 request-requires c κs = search needs

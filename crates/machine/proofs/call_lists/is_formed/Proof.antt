@@ -1,12 +1,9 @@
 -- `machine::call_lists::is_formed` meets its contract.
 -- Assumes nothing.
-use Rattle.machine.proofs.PerformingCalls.{formed-request, formed-units, formed-release, formed-others}
 use mathlib.Core.Path.{sym}
-use borrow.Author.Needs.{needs}
+use Rattle.machine.proofs.PerformingCalls.{formed-request, formed-units, formed-release, formed-others}
 use Rattle.machine.proofs.call_lists.is_formed.Statement.{statement}
 use Rattle.machine.proofs.call_lists.is_formed.Tie as tie
-use Rattle.machine.proofs.call_lists.is_formed.Reads as reads
-use Rattle.machine.proofs.call_lists.is_formed.Lts as lts
 
 returns : tie.Need-returns
 returns c = sym (formed-request _ _ _ (c .if1 .taken))

@@ -1,22 +1,14 @@
 -- `machine::call_lists::run` meets its contract. What has been answered, and the calls that are left.
 -- Assumes nothing.
-use Rattle.machine.proofs.GoingOn.{same-length as same-room}
-use Rattle.machine.proofs.GoingOn.{Going, going-none, whole, room, going-more, all-after, all-stored}
-use Rattle.machine.specs.Performing.{wellFormed, callsOf}
-use Rattle.machine.specs.Answers.{answerOf}
-use Rattle.records.specs.View.{view}
-use lib.ListN.{length}
-use Prim.Native.Nat.{ℕ, _≤_, _*_, _-_}
-use mathlib.Core.Bool.{true}
-use mathlib.Core.Path.{_≡_, sym, ap, _∙_}
+use Prim.Native.Nat.{_-_}
 use native.Mathlib.Omega.{arith}
+use lib.ListN.{length}
 use borrow.Author.Needs.{needs}
+use Rattle.records.specs.View.{view}
+use Rattle.machine.specs.Answers.{answerOf}
+use Rattle.machine.proofs.GoingOn.{same-length as same-room, Going, going-none, whole, room, going-more, all-after, all-stored}
 use Rattle.machine.proofs.call_lists.run.Statement.{statement}
 use Rattle.machine.proofs.call_lists.run.Tie as tie
-use Rattle.machine.proofs.call_lists.run.Reads as reads
-use Rattle.machine.proofs.call_lists.run.Lts as lts
-use Rattle.machine.proofs.call_lists.answer_at.Reads as answer-at-reads
-use Rattle.machine.proofs.call_lists.write_answer.Reads as write-answer-reads
 
 abbrev Inv-loop : tie.InvT-loop
 Inv-loop calls answers₀ record₀ i₀ at₀ answers «record» i at = Going calls answers₀ (view record₀) answers (view «record») i at

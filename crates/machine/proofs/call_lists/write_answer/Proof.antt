@@ -1,15 +1,12 @@
 -- `machine::call_lists::write_answer` meets its contract.
 -- Assumes nothing.
-use Prim.Native.Nat.{_+_}
-use lib.ListN.{set}
-use lib.ListN.{length, length-set}
 use mathlib.Core.Path.{refl}
+use Prim.Native.Nat.{_+_}
 use native.Mathlib.Omega.{arith}
+use lib.ListN.{set, length-set}
 use borrow.Author.Needs.{needs}
 use Rattle.machine.proofs.call_lists.write_answer.Statement.{statement}
 use Rattle.machine.proofs.call_lists.write_answer.Tie as tie
-use Rattle.machine.proofs.call_lists.write_answer.Reads as reads
-use Rattle.machine.proofs.call_lists.write_answer.Lts as lts
 
 mul-answers : tie.Need-mul-answers
 mul-answers c = search needs

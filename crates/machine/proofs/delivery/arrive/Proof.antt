@@ -1,16 +1,14 @@
 -- `machine::delivery::arrive` meets its contract. One case for each message.
 -- Assumes nothing.
-use Rattle.machine.proofs.ArrivingMessage.{request-passes, request-room, release-room, grant-room, request-joins, release-clears}
-use mathlib.Core.Path.{sym}
 use mathlib.Core.Bool.{true≢false}
+use mathlib.Core.Path.{sym}
 use native.Mathlib.Omega.{arith}
-use Rattle.records.proofs.Good.{line-of, granted-of}
 use borrow.Author.Needs.{needs}
 use Rattle.plain.specs.Arbiter.{arrived}
+use Rattle.records.proofs.Good.{line-of, granted-of}
+use Rattle.machine.proofs.ArrivingMessage.{request-passes, request-room, release-room, grant-room, request-joins, release-clears}
 use Rattle.machine.proofs.delivery.arrive.Statement.{statement}
 use Rattle.machine.proofs.delivery.arrive.Tie as tie
-use Rattle.machine.proofs.delivery.arrive.Reads as reads
-use Rattle.machine.proofs.delivery.arrive.Lts as lts
 
 enum-known-m : tie.Need-enum-known-m
 enum-known-m c = search needs

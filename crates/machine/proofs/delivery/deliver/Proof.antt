@@ -1,21 +1,14 @@
 -- `machine::delivery::deliver` meets its contract. The message arrives, then the line can be served.
 -- Assumes nothing.
-use Rattle.machine.specs.Ready.{Serves}
-use Rattle.records.specs.View.{arbiterOf}
-use Rattle.plain.specs.State.{Arbiter}
-use Rattle.plain.specs.Lanes.{linePlaces, passes}
-use Rattle.plain.specs.Arbiter.{arrived, served}
-use Rattle.machine.proofs.ArrivingMessage.{in-range-serves, arrived-serves}
+use mathlib.Core.Bool.{true≢false}
+use mathlib.Core.Path.{sym, ap, _∙_}
 use native.Mathlib.Omega.{arith}
-use mathlib.Core.Path.{_≡_, sym, ap, _∙_}
-use mathlib.Core.Bool.{false, true≢false}
-use borrow.Author.Needs.{needs}
+use Rattle.plain.specs.Arbiter.{served}
+use Rattle.plain.specs.State.{Arbiter}
+use Rattle.machine.specs.Ready.{Serves}
+use Rattle.machine.proofs.ArrivingMessage.{in-range-serves, arrived-serves}
 use Rattle.machine.proofs.delivery.deliver.Statement.{statement}
 use Rattle.machine.proofs.delivery.deliver.Tie as tie
-use Rattle.machine.proofs.delivery.deliver.Reads as reads
-use Rattle.machine.proofs.delivery.deliver.Lts as lts
-use Rattle.machine.proofs.delivery.arrive.Reads as arrive-reads
-use Rattle.machine.proofs.service.serve.Reads as serve-reads
 
 arrive-requires : tie.Need-arrive-requires
 arrive-requires c κs =

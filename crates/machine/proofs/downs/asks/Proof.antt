@@ -1,21 +1,14 @@
 -- `machine::downs::asks` meets its contract. 14 where the lane up would pass its limit.
 -- Assumes nothing.
-use Rattle.records.specs.View.{lanesOf}
+use mathlib.Core.Path.{sym, ap, _∙_}
+use native.Mathlib.Omega.{arith}
+use borrow.Author.Needs.{needs}
 use Rattle.lists.specs.At.{at2}
+use Rattle.records.specs.View.{lanesOf}
 use Rattle.records.proofs.Good.{stations-of}
 use Rattle.machine.proofs.ReceivingDown.{asks-full, asks-done}
-use native.Mathlib.Omega.{arith}
-use mathlib.Core.Path.{sym, ap, _∙_}
-use borrow.Author.Needs.{needs}
 use Rattle.machine.proofs.downs.asks.Statement.{statement}
 use Rattle.machine.proofs.downs.asks.Tie as tie
-use Rattle.machine.proofs.downs.asks.Reads as reads
-use Rattle.machine.proofs.downs.asks.Lts as lts
-use Rattle.machine.proofs.done.Reads as done-reads
-use Rattle.machine.proofs.lanes.lane_at.Reads as lane-at-reads
-use Rattle.machine.proofs.lanes.put.Reads as put-reads
-use Rattle.machine.proofs.lanes.with_lane.Reads as with-lane-reads
-use Rattle.machine.proofs.refuse.Reads as refuse-reads
 
 lane-at-requires : tie.Need-lane-at-requires
 lane-at-requires c κs = search needs

@@ -1,25 +1,16 @@
 -- `machine::downs::down_in_range` meets its contract. Refusals in their order; then the oldest message is taken.
 -- Assumes nothing.
-use mathlib.Core.List.{_∷_}
-use mathlib.Core.Path.{_≡_}
+use mathlib.Core.Path.{_≡_, sym, ap, _∙_}
+use Prim.Native.Nat.{_≤_, _<_}
+use native.Mathlib.Omega.{arith}
 use lib.ListN.{length}
-use Prim.Native.Nat.{ℕ, _≤_, _<_}
+use borrow.Author.Needs.{needs}
+use Rattle.records.specs.View.{view, laneOf, lanesOf}
 use Rattle.records.proofs.Viewing.{lane-length, lane-empty}
 use Rattle.machine.proofs.RecordInRange.{down-short}
-use Rattle.records.specs.View.{view, laneOf, lanesOf}
-use native.Mathlib.Omega.{arith}
 use Rattle.machine.proofs.Refusing.{down-delivery, delivery-8-station, delivery-8-arbiter, delivery-13}
-use mathlib.Core.Path.{sym, ap, _∙_}
-use borrow.Author.Needs.{needs}
 use Rattle.machine.proofs.downs.down_in_range.Statement.{statement}
 use Rattle.machine.proofs.downs.down_in_range.Tie as tie
-use Rattle.machine.proofs.downs.down_in_range.Reads as reads
-use Rattle.machine.proofs.downs.down_in_range.Lts as lts
-use Rattle.machine.proofs.downs.receive.Reads as receive-reads
-use Rattle.machine.proofs.lanes.lane_at.Reads as lane-at-reads
-use Rattle.machine.proofs.lanes.take.Reads as take-reads
-use Rattle.machine.proofs.lanes.with_lane.Reads as with-lane-reads
-use Rattle.machine.proofs.refuse.Reads as refuse-reads
 
 cast-if1 : tie.Need-cast-if1
 cast-if1 c = search needs

@@ -1,13 +1,10 @@
 -- `machine::downs::drops` meets its contract.
 -- Assumes nothing.
-use Rattle.machine.proofs.ReceivingDown.{drops-done}
 use mathlib.Core.Path.{sym, _∙_}
 use borrow.Author.Needs.{needs}
+use Rattle.machine.proofs.ReceivingDown.{drops-done}
 use Rattle.machine.proofs.downs.drops.Statement.{statement}
 use Rattle.machine.proofs.downs.drops.Tie as tie
-use Rattle.machine.proofs.downs.drops.Reads as reads
-use Rattle.machine.proofs.downs.drops.Lts as lts
-use Rattle.machine.proofs.done.Reads as done-reads
 
 done-requires : tie.Need-done-requires
 done-requires c κs = search needs

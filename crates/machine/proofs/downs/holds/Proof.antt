@@ -1,15 +1,13 @@
 -- `machine::downs::holds` meets its contract.
 -- Assumes nothing.
-use Rattle.machine.specs.Answers.{answerOf}
-use Rattle.records.proofs.Good.{stations-of}
-use Rattle.machine.proofs.ReceivingDown.{holds-done}
+use mathlib.Core.Path.{refl, sym}
 use native.Mathlib.Omega.{arith}
-use mathlib.Core.Path.{refl, sym, _∙_}
 use borrow.Author.Needs.{needs}
+use Rattle.records.proofs.Good.{stations-of}
+use Rattle.machine.specs.Answers.{answerOf}
+use Rattle.machine.proofs.ReceivingDown.{holds-done}
 use Rattle.machine.proofs.downs.holds.Statement.{statement}
 use Rattle.machine.proofs.downs.holds.Tie as tie
-use Rattle.machine.proofs.downs.holds.Reads as reads
-use Rattle.machine.proofs.downs.holds.Lts as lts
 
 mul-station : tie.Need-mul-station
 mul-station c = search needs

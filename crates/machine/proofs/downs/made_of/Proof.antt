@@ -1,21 +1,16 @@
 -- `machine::downs::made_of` meets its contract. One case for each phase; a GRANT from another arbiter than the one approached is dropped.
 -- Assumes nothing.
-use mathlib.Core.Path.{_≡_}
+use mathlib.Core.Path.{_≡_, refl, sym, _∙_}
 use Prim.Native.Nat.{ℕ, _<_, _^_}
+use native.Mathlib.Omega.{arith}
 use lib.ListN.{getD}
-use Rattle.quorum.specs.Family.{quorum}
+use borrow.Author.Needs.{needs}
 use Rattle.lists.specs.Cut.{cut}
 use Rattle.lists.proofs.Cuts.{length-cut, getD-cut}
+use Rattle.quorum.specs.Family.{quorum}
 use Rattle.machine.proofs.GoingOnward.{taken-idle, taken-holding, taken-elsewhere, taken-here}
-use Rattle.plain.specs.Down.{taken}
-use native.Mathlib.Omega.{arith}
-use mathlib.Core.Path.{refl, sym, ap, _∙_}
-use borrow.Author.Needs.{needs}
 use Rattle.machine.proofs.downs.made_of.Statement.{statement}
 use Rattle.machine.proofs.downs.made_of.Tie as tie
-use Rattle.machine.proofs.downs.made_of.Reads as reads
-use Rattle.machine.proofs.downs.made_of.Lts as lts
-use Rattle.machine.proofs.downs.onward.Reads as onward-reads
 
 enum-told : tie.Need-enum-told
 enum-told c = search needs

@@ -1,19 +1,14 @@
 -- `machine::downs::onward` meets its contract. The lowest member above j, where there is one.
 -- Assumes nothing.
-use Rattle.stations.specs.Sets.{places, lowestFrom}
+use mathlib.Core.Path.{refl, sym}
 use Prim.Native.Nat.{_<_, _+_}
-use mathlib.Core.Path.{refl}
-use borrow.Author.Tests.{lt-ltb}
-use Rattle.machine.proofs.GoingOnward.{lowest-below, onward-holds, onward-asks}
-use Rattle.plain.specs.Down.{onward}
 use native.Mathlib.Omega.{arith}
-use mathlib.Core.Path.{sym, ap, _∙_}
 use borrow.Author.Needs.{needs}
+use borrow.Author.Tests.{lt-ltb}
+use Rattle.stations.specs.Sets.{places, lowestFrom}
+use Rattle.machine.proofs.GoingOnward.{lowest-below, onward-holds, onward-asks}
 use Rattle.machine.proofs.downs.onward.Statement.{statement}
 use Rattle.machine.proofs.downs.onward.Tie as tie
-use Rattle.machine.proofs.downs.onward.Reads as reads
-use Rattle.machine.proofs.downs.onward.Lts as lts
-use Rattle.stations.proofs.lowest_from.Reads as lowest-from-reads
 
 add-lowest-from : tie.Need-add-lowest-from
 add-lowest-from c = search needs

@@ -1,23 +1,16 @@
 -- `machine::downs::receive` meets its contract.
 -- Assumes nothing.
-use mathlib.Core.Path.{_≡_}
-use Rattle.machine.specs.Takings.{takenOf, within}
-use Rattle.plain.specs.Down.{Taken, taken, takenAt}
-use borrow.Author.Tests.{ltb-true}
-use Rattle.machine.proofs.RecordInRange.{wishes}
-use Rattle.records.proofs.Viewing.{phases-at}
-use Rattle.records.specs.View.{view, tableOf}
+use mathlib.Core.Path.{_≡_, sym, ap, _∙_}
 use native.Mathlib.Omega.{arith}
-use mathlib.Core.Path.{refl, sym, ap, _∙_}
 use borrow.Author.Needs.{needs}
+use borrow.Author.Tests.{ltb-true}
+use Rattle.plain.specs.Down.{taken, takenAt}
+use Rattle.records.specs.View.{view, tableOf}
+use Rattle.records.proofs.Viewing.{phases-at}
+use Rattle.machine.specs.Takings.{takenOf, within}
+use Rattle.machine.proofs.RecordInRange.{wishes}
 use Rattle.machine.proofs.downs.receive.Statement.{statement}
 use Rattle.machine.proofs.downs.receive.Tie as tie
-use Rattle.machine.proofs.downs.receive.Reads as reads
-use Rattle.machine.proofs.downs.receive.Lts as lts
-use Rattle.machine.proofs.downs.asks.Reads as asks-reads
-use Rattle.machine.proofs.downs.drops.Reads as drops-reads
-use Rattle.machine.proofs.downs.holds.Reads as holds-reads
-use Rattle.machine.proofs.downs.made_of.Reads as made-of-reads
 
 mul-station : tie.Need-mul-station
 mul-station c = search needs

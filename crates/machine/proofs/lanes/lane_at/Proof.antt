@@ -1,11 +1,9 @@
 -- `machine::lanes::lane_at` meets its contract.
 -- Assumes nothing.
-use Rattle.records.proofs.Viewing.{lanes-at}
 use borrow.Author.Needs.{needs}
+use Rattle.records.proofs.Viewing.{lanes-at}
 use Rattle.machine.proofs.lanes.lane_at.Statement.{statement}
 use Rattle.machine.proofs.lanes.lane_at.Tie as tie
-use Rattle.machine.proofs.lanes.lane_at.Reads as reads
-use Rattle.machine.proofs.lanes.lane_at.Lts as lts
 
 mul-row : tie.Need-mul-row
 mul-row c = search needs

@@ -1,13 +1,11 @@
 -- `machine::lanes::put` meets its contract.
 -- Assumes nothing.
 use native.Mathlib.Omega.{arith}
+use borrow.Author.Needs.{needs}
 use Rattle.records.proofs.Good.{slots-of}
 use Rattle.records.proofs.Viewing.{lane-put}
-use borrow.Author.Needs.{needs}
 use Rattle.machine.proofs.lanes.put.Statement.{statement}
 use Rattle.machine.proofs.lanes.put.Tie as tie
-use Rattle.machine.proofs.lanes.put.Reads as reads
-use Rattle.machine.proofs.lanes.put.Lts as lts
 
 cast-at : tie.Need-cast-at
 cast-at c = search needs

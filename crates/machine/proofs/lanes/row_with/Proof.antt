@@ -1,13 +1,11 @@
 -- `machine::lanes::row_with` meets its contract.
 -- Assumes nothing.
 use native.Mathlib.Omega.{arith}
+use borrow.Author.Needs.{needs}
 use Rattle.records.proofs.Good.{lanes-of}
 use Rattle.records.proofs.Viewing.{row-with}
-use borrow.Author.Needs.{needs}
 use Rattle.machine.proofs.lanes.row_with.Statement.{statement}
 use Rattle.machine.proofs.lanes.row_with.Tie as tie
-use Rattle.machine.proofs.lanes.row_with.Reads as reads
-use Rattle.machine.proofs.lanes.row_with.Lts as lts
 
 mul-l : tie.Need-mul-l
 mul-l c = search needs

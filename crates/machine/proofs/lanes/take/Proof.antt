@@ -1,13 +1,10 @@
 -- `machine::lanes::take` meets its contract.
 -- Assumes nothing.
-use native.Mathlib.Omega.{arith}
+use borrow.Author.Needs.{needs}
 use Rattle.records.proofs.Good.{slots-of}
 use Rattle.records.proofs.Viewing.{lane-take}
-use borrow.Author.Needs.{needs}
 use Rattle.machine.proofs.lanes.take.Statement.{statement}
 use Rattle.machine.proofs.lanes.take.Tie as tie
-use Rattle.machine.proofs.lanes.take.Reads as reads
-use Rattle.machine.proofs.lanes.take.Lts as lts
 
 element-copy-out-first : tie.Need-element-copy-out-first
 element-copy-out-first c = search needs

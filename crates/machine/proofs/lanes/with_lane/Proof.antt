@@ -1,13 +1,11 @@
 -- `machine::lanes::with_lane` meets its contract.
 -- Assumes nothing.
 use native.Mathlib.Omega.{arith}
+use borrow.Author.Needs.{needs}
 use Rattle.records.proofs.Good.{rows-of, lanes-of-row}
 use Rattle.records.proofs.Viewing.{lanes-with}
-use borrow.Author.Needs.{needs}
 use Rattle.machine.proofs.lanes.with_lane.Statement.{statement}
 use Rattle.machine.proofs.lanes.with_lane.Tie as tie
-use Rattle.machine.proofs.lanes.with_lane.Reads as reads
-use Rattle.machine.proofs.lanes.with_lane.Lts as lts
 
 mul-row : tie.Need-mul-row
 mul-row c = search needs

@@ -1,21 +1,14 @@
 -- `machine::lending::deliver_lent` meets its contract. 14 where the line would pass its limit, otherwise the arbiter's part of Up with twelve stations.
 -- Assumes nothing.
-use Rattle.machine.specs.Lent.{lentOf, grantedSet, Lending}
-use Rattle.plain.specs.declared.Entry.{Entry}
-use Rattle.plain.specs.State.{Arbiter}
-use Rattle.machine.proofs.LendingArbiter.{delivering-14, delivering-done}
-use native.Mathlib.Omega.{arith}
+use mathlib.Core.Path.{sym, ap, ap₂, _∙_}
 use Prim.Native.Nat.{ℕ}
-use mathlib.Core.Path.{_≡_, sym, ap, ap₂, _∙_}
-use mathlib.Core.List.{List}
+use native.Mathlib.Omega.{arith}
 use borrow.Author.Needs.{needs}
+use Rattle.plain.specs.State.{Arbiter}
+use Rattle.machine.specs.Lent.{lentOf, grantedSet}
+use Rattle.machine.proofs.LendingArbiter.{delivering-14, delivering-done}
 use Rattle.machine.proofs.lending.deliver_lent.Statement.{statement}
 use Rattle.machine.proofs.lending.deliver_lent.Tie as tie
-use Rattle.machine.proofs.lending.deliver_lent.Reads as reads
-use Rattle.machine.proofs.lending.deliver_lent.Lts as lts
-use Rattle.machine.proofs.delivery.deliver.Reads as deliver-reads
-use Rattle.machine.proofs.lending.granted_set.Reads as granted-set-reads
-use Rattle.machine.proofs.lending.refuse_lent.Reads as refuse-lent-reads
 
 deliver-requires : tie.Need-deliver-requires
 deliver-requires c κs = (omega arith, c .pre .station, c .pre .range, c .pre .goes)

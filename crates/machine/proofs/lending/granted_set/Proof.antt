@@ -1,22 +1,18 @@
 -- `machine::lending::granted_set` meets its contract. The stations below the one in hand that are granted.
 -- Assumes nothing.
-use Rattle.machine.specs.Lent.{isGranted}
-use Rattle.records.specs.View.{noEntry}
-use Rattle.stations.proofs.Built.{set-below, set-pass, set-fail, only-below}
-use Rattle.stations.specs.Sets.{setOf}
-use Rattle.lists.specs.Cut.{cut}
-use lib.Pow.{pow-mono}
-use native.Mathlib.Omega.{arith}
-use Prim.Native.Nat.{ℕ, suc, _≤_, _+_, _-_}
-use mathlib.Core.Path.{_≡_, refl, sym, ap, ap₂, _∙_}
 use mathlib.Core.Logic.{⊎-elim}
+use mathlib.Core.Path.{_≡_, refl, sym, ap, ap₂, _∙_}
+use Prim.Native.Nat.{suc, _≤_, _+_, _-_}
+use native.Mathlib.Omega.{arith}
+use lib.Pow.{pow-mono}
 use borrow.Author.Needs.{needs}
+use Rattle.lists.specs.Cut.{cut}
+use Rattle.stations.specs.Sets.{setOf}
+use Rattle.stations.proofs.Built.{set-below, set-pass, set-fail, only-below}
+use Rattle.records.specs.View.{noEntry}
+use Rattle.machine.specs.Lent.{isGranted}
 use Rattle.machine.proofs.lending.granted_set.Statement.{statement}
 use Rattle.machine.proofs.lending.granted_set.Tie as tie
-use Rattle.machine.proofs.lending.granted_set.Reads as reads
-use Rattle.machine.proofs.lending.granted_set.Lts as lts
-use Rattle.machine.proofs.lending.is_granted.Reads as is-granted-reads
-use Rattle.stations.proofs.only.Reads as only-reads
 
 abbrev Inv-loop : tie.InvT-loop
 Inv-loop line grants set₀ t₀ set t = (t ≤ 12) × (set ≡ setOf (isGranted (cut noEntry grants line)) t)

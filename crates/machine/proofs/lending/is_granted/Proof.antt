@@ -1,25 +1,16 @@
 -- `machine::lending::is_granted` meets its contract. No entry before the one in hand is of the station.
 -- Assumes nothing.
-use Rattle.machine.proofs.LendingArbiter.{granted-here, granted-later, granted-none}
-use Rattle.machine.specs.Lent.{isGranted}
-use Rattle.records.specs.View.{noEntry}
-use Rattle.plain.specs.declared.Entry.{Entry}
-use Rattle.lists.proofs.Searches.{any-here, any-later, any-end}
-use Rattle.lists.proofs.Cuts.{length-cut, getD-cut}
-use Rattle.lists.specs.Search.{any}
-use Rattle.lists.specs.Cut.{cut}
-use borrow.Author.Tests.{eq-eqb, ne-eqb}
-use native.Mathlib.Omega.{arith}
-use lib.ListN.{length, getD, drop}
-use lib.Dec.{eqb}
-use Prim.Native.Nat.{ℕ, _≤_, _<_, _-_}
 use mathlib.Core.Path.{_≡_, refl, sym, _∙_}
-use mathlib.Core.Bool.{true, false}
+use Prim.Native.Nat.{_≤_, _-_}
+use native.Mathlib.Omega.{arith}
+use lib.ListN.{drop}
 use borrow.Author.Needs.{needs}
+use Rattle.lists.specs.Cut.{cut}
+use Rattle.records.specs.View.{noEntry}
+use Rattle.machine.specs.Lent.{isGranted}
+use Rattle.machine.proofs.LendingArbiter.{granted-here, granted-later, granted-none}
 use Rattle.machine.proofs.lending.is_granted.Statement.{statement}
 use Rattle.machine.proofs.lending.is_granted.Tie as tie
-use Rattle.machine.proofs.lending.is_granted.Reads as reads
-use Rattle.machine.proofs.lending.is_granted.Lts as lts
 
 abbrev Inv-loop : tie.InvT-loop
 Inv-loop grants t line i₀ i = (i ≤ grants) × (isGranted (cut noEntry grants line) t ≡ isGranted (drop i (cut noEntry grants line)) t)

@@ -1,12 +1,9 @@
 -- `machine::lending::refuse_lent` meets its contract.
 -- Assumes nothing.
-use Rattle.machine.specs.Lent.{lentOf}
 use mathlib.Core.Path.{refl}
-use borrow.Author.Needs.{needs}
+use Rattle.machine.specs.Lent.{lentOf}
 use Rattle.machine.proofs.lending.refuse_lent.Statement.{statement}
 use Rattle.machine.proofs.lending.refuse_lent.Tie as tie
-use Rattle.machine.proofs.lending.refuse_lent.Reads as reads
-use Rattle.machine.proofs.lending.refuse_lent.Lts as lts
 
 returns : tie.Need-returns
 unfolding lentOf

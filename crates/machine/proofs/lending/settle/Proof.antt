@@ -1,29 +1,20 @@
 -- `machine::lending::settle` meets its contract. Refusals in their order.
 -- Assumes nothing.
-use Rattle.machine.specs.Lent.{Lending}
+use mathlib.Core.Bool.{true, not}
+use mathlib.Core.Path.{_≡_, refl, sym, ap, _∙_}
+use native.Mathlib.Omega.{arith}
+use borrow.Author.Needs.{needs}
+use borrow.Author.Tests.{not-true, not-false}
+use Rattle.quorum.specs.Limits.{mostStations, mostUnits, upTo}
+use Rattle.quorum.proofs.LimitLaws.{up-to}
+use Rattle.plain.specs.InRange.{goesUp, arbiterIn}
+use Rattle.records.specs.View.{arbiterOf}
+use Rattle.machine.specs.Lent.{badUnits, delivering, messageOf}
 use Rattle.machine.specs.declared.Upward.{Upward}
 use Rattle.machine.specs.declared.Upward.the-variants.{Release as UpRelease}
-use Rattle.plain.specs.InRange.{goesUp}
-use Rattle.machine.specs.Lent.{badUnits, delivering, messageOf}
-use Rattle.records.specs.View.{arbiterOf}
-use Rattle.plain.specs.InRange.{arbiterIn}
-use Rattle.quorum.proofs.LimitLaws.{up-to}
-use Rattle.quorum.specs.Limits.{mostStations, mostUnits, upTo}
-use borrow.Author.Tests.{not-true, not-false}
 use Rattle.machine.proofs.LendingArbiter.{lending-2, lending-19, lending-8, lending-10, lending-delivers, units-go}
-use native.Mathlib.Omega.{arith}
-use Prim.Native.Nat.{ℕ, _≤_}
-use mathlib.Core.Path.{_≡_, refl, sym, ap, _∙_}
-use mathlib.Core.Bool.{true, false, not}
-use borrow.Author.Needs.{needs}
 use Rattle.machine.proofs.lending.settle.Statement.{statement}
 use Rattle.machine.proofs.lending.settle.Tie as tie
-use Rattle.machine.proofs.lending.settle.Reads as reads
-use Rattle.machine.proofs.lending.settle.Lts as lts
-use Rattle.machine.proofs.lending.deliver_lent.Reads as deliver-lent-reads
-use Rattle.machine.proofs.lending.refuse_lent.Reads as refuse-lent-reads
-use Rattle.quorum.proofs.limits.up_to.Reads as up-to-reads
-use Rattle.records.proofs.arbiter_in_range.Reads as arbiter-in-range-reads
 
 up-to-requires : tie.Need-up-to-requires
 up-to-requires c κs = search needs

@@ -1,12 +1,9 @@
 -- `machine::opening::blank` meets its contract.
 -- Assumes nothing.
-use Rattle.machine.proofs.OpeningRecord.{blank-fresh}
 use borrow.Author.Needs.{needs}
+use Rattle.machine.proofs.OpeningRecord.{blank-fresh}
 use Rattle.machine.proofs.opening.blank.Statement.{statement}
 use Rattle.machine.proofs.opening.blank.Tie as tie
-use Rattle.machine.proofs.opening.blank.Reads as reads
-use Rattle.machine.proofs.opening.blank.Lts as lts
-use Rattle.machine.proofs.opening.empty_lanes.Reads as empty-lanes-reads
 
 empty-lanes-requires : tie.Need-empty-lanes-requires
 empty-lanes-requires c κs = search needs

@@ -1,17 +1,15 @@
 -- `machine::opening::copied` meets its contract. The places before the one in hand have the quorums of their numbers.
 -- Assumes nothing.
-use Rattle.lists.proofs.Cuts.{cut-push, cut-more, cut-all}
-use Rattle.lists.specs.Cut.{cut}
+use mathlib.Core.List.{List, _∷_, [], _++_}
+use mathlib.Core.Path.{_≡_, refl, sym, ap, _∙_}
+use Prim.Native.Nat.{ℕ, _≤_, _-_}
 use native.Mathlib.Omega.{arith}
 use lib.ListN.{length, getD}
-use mathlib.Core.List.{List, _∷_, [], _++_}
-use Prim.Native.Nat.{ℕ, _≤_, _<_, _-_}
-use mathlib.Core.Path.{_≡_, refl, sym, ap, _∙_}
 use borrow.Author.Needs.{needs}
+use Rattle.lists.specs.Cut.{cut}
+use Rattle.lists.proofs.Cuts.{cut-push, cut-more, cut-all}
 use Rattle.machine.proofs.opening.copied.Statement.{statement}
 use Rattle.machine.proofs.opening.copied.Tie as tie
-use Rattle.machine.proofs.opening.copied.Reads as reads
-use Rattle.machine.proofs.opening.copied.Lts as lts
 
 abbrev Inv-loop : tie.InvT-loop
 Inv-loop quorums table₀ p₀ table p = (p ≤ length quorums) × (length table ≡ 64) × (cut 0 p table ≡ cut 0 p quorums)

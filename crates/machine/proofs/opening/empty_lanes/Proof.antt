@@ -1,11 +1,8 @@
 -- `machine::opening::empty_lanes` meets its contract.
 -- Assumes nothing.
 use Rattle.machine.proofs.OpeningRecord.{empty-lanes}
-use borrow.Author.Needs.{needs}
 use Rattle.machine.proofs.opening.empty_lanes.Statement.{statement}
 use Rattle.machine.proofs.opening.empty_lanes.Tie as tie
-use Rattle.machine.proofs.opening.empty_lanes.Reads as reads
-use Rattle.machine.proofs.opening.empty_lanes.Lts as lts
 
 returns : tie.Need-returns
 returns c = λ n. empty-lanes n 12 _

@@ -1,16 +1,12 @@
 -- `machine::opening::fresh` meets its contract.
 -- Assumes nothing.
-use Rattle.plain.specs.State.{fresh}
-use Prim.Native.Nat.{ℕ}
 use mathlib.Core.List.{List}
 use mathlib.Core.Path.{ap, _∙_}
+use Prim.Native.Nat.{ℕ}
 use borrow.Author.Needs.{needs}
+use Rattle.plain.specs.State.{fresh}
 use Rattle.machine.proofs.opening.fresh.Statement.{statement}
 use Rattle.machine.proofs.opening.fresh.Tie as tie
-use Rattle.machine.proofs.opening.fresh.Reads as reads
-use Rattle.machine.proofs.opening.fresh.Lts as lts
-use Rattle.machine.proofs.opening.blank.Reads as blank-reads
-use Rattle.machine.proofs.opening.copied.Reads as copied-reads
 
 copied-requires : tie.Need-copied-requires
 copied-requires c κs = search needs

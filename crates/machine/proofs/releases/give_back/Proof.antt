@@ -1,24 +1,19 @@
 -- `machine::releases::give_back` meets its contract. 14 where a lane would pass its limit, otherwise all of it is stored at once.
 -- Assumes nothing.
-use Prim.Native.Nat.{_^_}
-use Prim.Native.Nat.{_<_}
-use lib.ListN.{length, getD}
-use Rattle.records.specs.View.{tableOf}
-use Rattle.lists.proofs.Cuts.{length-cut}
-use Rattle.records.proofs.Viewing.{quorum-at}
-use Rattle.records.proofs.Good.{stations-of, rows-of-up}
-use Rattle.machine.specs.Answers.{answerOf}
-use Rattle.machine.proofs.RecordInRange.{limits}
-use Rattle.machine.proofs.GivingBack.{back-full, back-done}
+use mathlib.Core.Path.{sym, _∙_}
+use Prim.Native.Nat.{_^_, _<_}
 use native.Mathlib.Omega.{arith}
-use mathlib.Core.Path.{refl, sym, ap, _∙_}
+use lib.ListN.{length, getD}
 use borrow.Author.Needs.{needs}
+use Rattle.lists.proofs.Cuts.{length-cut}
+use Rattle.records.specs.View.{tableOf}
+use Rattle.records.proofs.Good.{stations-of, rows-of-up}
+use Rattle.records.proofs.Viewing.{quorum-at}
+use Rattle.machine.specs.Answers.{answerOf}
+use Rattle.machine.proofs.GivingBack.{back-full, back-done}
+use Rattle.machine.proofs.RecordInRange.{limits}
 use Rattle.machine.proofs.releases.give_back.Statement.{statement}
 use Rattle.machine.proofs.releases.give_back.Tie as tie
-use Rattle.machine.proofs.releases.give_back.Reads as reads
-use Rattle.machine.proofs.releases.give_back.Lts as lts
-use Rattle.machine.proofs.refuse.Reads as refuse-reads
-use Rattle.machine.proofs.releases.release_row.Reads as release-row-reads
 
 mul-row : tie.Need-mul-row
 mul-row c = search needs

@@ -1,18 +1,13 @@
 -- `machine::releases::release_in_range` meets its contract. Refusals in their order.
 -- Assumes nothing.
-use Rattle.records.proofs.Viewing.{phases-at}
+use mathlib.Core.Path.{sym, _∙_}
+use borrow.Author.Needs.{needs}
 use Rattle.records.specs.View.{view}
+use Rattle.records.proofs.Viewing.{phases-at}
 use Rattle.machine.proofs.RecordInRange.{holds}
 use Rattle.machine.proofs.Refusing.{release-8, release-12-idle, release-12-collecting}
-use native.Mathlib.Omega.{arith}
-use mathlib.Core.Path.{refl, sym, ap, _∙_}
-use borrow.Author.Needs.{needs}
 use Rattle.machine.proofs.releases.release_in_range.Statement.{statement}
 use Rattle.machine.proofs.releases.release_in_range.Tie as tie
-use Rattle.machine.proofs.releases.release_in_range.Reads as reads
-use Rattle.machine.proofs.releases.release_in_range.Lts as lts
-use Rattle.machine.proofs.refuse.Reads as refuse-reads
-use Rattle.machine.proofs.releases.give_back.Reads as give-back-reads
 
 cast-if1 : tie.Need-cast-if1
 cast-if1 c = search needs

@@ -1,25 +1,20 @@
 -- `machine::releases::release_row` meets its contract. The stations before the one in hand have their RELEASE, and no lane passed its limit.
 -- Assumes nothing.
-use Prim.Native.Nat.{_<_}
-use mathlib.Core.Bool.{Bool}
-use Rattle.lists.specs.At.{at}
-use Rattle.plain.specs.declared.Message.{Message}
+use mathlib.Core.Bool.{false, true≢false}
 use mathlib.Core.List.{List}
+use mathlib.Core.Path.{_≡_, refl, sym, ap, _∙_}
+use Prim.Native.Nat.{_<_, ℕ, _≤_, _-_}
+use native.Mathlib.Omega.{arith}
+use borrow.Author.Needs.{needs}
+use Rattle.lists.specs.At.{at}
+use Rattle.lists.specs.Search.{someBelow}
+use Rattle.lists.proofs.Searches.{some-at, some-none}
+use Rattle.plain.specs.Release.{releasing, releasePasses}
+use Rattle.plain.specs.declared.Message.{Message}
 use Rattle.records.specs.View.{rowOf}
 use Rattle.machine.proofs.ReleasingRow.{released-below, below-none, passes-here, below-more, below-all}
-use Rattle.plain.specs.Release.{releasing, releasePasses}
-use Rattle.lists.proofs.Searches.{some-at, some-none}
-use Rattle.lists.specs.Search.{someBelow}
-use native.Mathlib.Omega.{arith}
-use Prim.Native.Nat.{ℕ, _≤_, _-_}
-use mathlib.Core.Path.{_≡_, refl, sym, ap, _∙_}
-use mathlib.Core.Bool.{false, true≢false}
-use borrow.Author.Needs.{needs}
 use Rattle.machine.proofs.releases.release_row.Statement.{statement}
 use Rattle.machine.proofs.releases.release_row.Tie as tie
-use Rattle.machine.proofs.releases.release_row.Reads as reads
-use Rattle.machine.proofs.releases.release_row.Lts as lts
-use Rattle.machine.proofs.releases.release_to.Reads as release-to-reads
 
 abbrev Inv-loop : tie.InvT-loop
 Inv-loop n set next₀ j₀ next j = (j ≤ n) × (rowOf n next ≡ released-below set (rowOf n next₀) j) × (someBelow (releasePasses set (rowOf n next₀)) j ≡ false)

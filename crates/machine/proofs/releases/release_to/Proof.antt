@@ -1,30 +1,22 @@
 -- `machine::releases::release_to` meets its contract. Where j is no member its lane stays; otherwise it is one RELEASE longer.
 -- Assumes nothing.
-use Prim.Native.Nat.{ℕ, _<_}
-use Rattle.records.specs.View.{noLane}
+use mathlib.Core.Bool.{true≢false}
+use mathlib.Core.List.{List}
+use mathlib.Core.Path.{sym, ap, _∙_}
 use lib.ListN.{getD}
-use native.Mathlib.Omega.{arith}
-use Rattle.machine.proofs.AskingMember.{lane-full, lane-room}
-use Rattle.records.proofs.Viewing.{row-at}
-use Rattle.records.specs.View.{rowOf, laneOf}
-use Rattle.machine.proofs.ReleasingRow.{passes-member, passes-other, other-stays}
+use borrow.Author.Needs.{needs}
 use borrow.Author.Tests.{not-true, not-false}
-use mathlib.Core.Path.{_≡_, refl, sym, ap, _∙_}
+use Rattle.lists.specs.At.{at}
 use Rattle.plain.specs.Lanes.{upPlaces, passes, sent}
+use Rattle.plain.specs.declared.Message.{Message}
 use Rattle.plain.specs.declared.Message.the-variants.{Release}
 use Rattle.plain.proofs.Releasing.{releasing-member}
-use Rattle.lists.specs.At.{at}
-use Rattle.plain.specs.declared.Message.{Message}
-use mathlib.Core.List.{List}
-use mathlib.Core.Bool.{true, true≢false}
-use borrow.Author.Needs.{needs}
+use Rattle.records.specs.View.{noLane, rowOf}
+use Rattle.records.proofs.Viewing.{row-at}
+use Rattle.machine.proofs.AskingMember.{lane-full, lane-room}
+use Rattle.machine.proofs.ReleasingRow.{passes-member, passes-other, other-stays}
 use Rattle.machine.proofs.releases.release_to.Statement.{statement}
 use Rattle.machine.proofs.releases.release_to.Tie as tie
-use Rattle.machine.proofs.releases.release_to.Reads as reads
-use Rattle.machine.proofs.releases.release_to.Lts as lts
-use Rattle.machine.proofs.lanes.put.Reads as put-reads
-use Rattle.machine.proofs.lanes.row_with.Reads as row-with-reads
-use Rattle.stations.proofs.has.Reads as has-reads
 
 has-requires : tie.Need-has-requires
 has-requires c κs = search needs

@@ -1,26 +1,15 @@
 -- `machine::requests::ask` meets its contract.
 -- Assumes nothing.
-use Rattle.lists.specs.At.{at2}
-use mathlib.Core.Path.{_≡_}
-use Rattle.records.specs.View.{lanesOf, laneOf}
+use mathlib.Core.Path.{sym, ap, _∙_}
 use Prim.Native.Nat.{_<_}
+use native.Mathlib.Omega.{arith}
+use borrow.Author.Needs.{needs}
+use Rattle.lists.specs.At.{at2}
+use Rattle.records.specs.View.{lanesOf}
 use Rattle.records.proofs.Good.{stations-of}
 use Rattle.machine.proofs.AskingMember.{lowest-station, request-full, request-goes}
-use native.Mathlib.Omega.{arith}
-use Rattle.machine.proofs.Refusing.{request-14, request-done}
-use borrow.Author.Tests.{not-true, not-false}
-use mathlib.Core.Path.{sym, ap, _∙_}
-use borrow.Author.Needs.{needs}
 use Rattle.machine.proofs.requests.ask.Statement.{statement}
 use Rattle.machine.proofs.requests.ask.Tie as tie
-use Rattle.machine.proofs.requests.ask.Reads as reads
-use Rattle.machine.proofs.requests.ask.Lts as lts
-use Rattle.machine.proofs.done.Reads as done-reads
-use Rattle.machine.proofs.lanes.lane_at.Reads as lane-at-reads
-use Rattle.machine.proofs.lanes.put.Reads as put-reads
-use Rattle.machine.proofs.lanes.with_lane.Reads as with-lane-reads
-use Rattle.machine.proofs.refuse.Reads as refuse-reads
-use Rattle.stations.proofs.lowest_from.Reads as lowest-from-reads
 
 mul-lowest-from : tie.Need-mul-lowest-from
 mul-lowest-from c = search needs

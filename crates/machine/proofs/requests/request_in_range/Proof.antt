@@ -1,29 +1,20 @@
 -- `machine::requests::request_in_range` meets its contract. Refusals in their order.
 -- Assumes nothing.
 use mathlib.Core.Bool.{not}
-use Rattle.quorum.specs.Limits.{upTo}
+use mathlib.Core.Path.{sym, ap, _∙_}
 use Prim.Native.Nat.{_≤_, _<_}
+use native.Mathlib.Omega.{arith}
 use lib.ListN.{length}
-use Rattle.plain.specs.Request.{isIdle}
-use mathlib.Core.Path.{_≡_}
-use mathlib.Core.Bool.{true, false}
+use borrow.Author.Needs.{needs}
+use borrow.Author.Tests.{not-true, not-false}
 use Rattle.quorum.proofs.LimitLaws.{up-to}
+use Rattle.plain.specs.Request.{isIdle}
+use Rattle.records.specs.View.{view}
 use Rattle.records.proofs.Viewing.{phases-at}
 use Rattle.machine.proofs.RecordInRange.{table-length}
-use Rattle.records.specs.View.{view}
-use native.Mathlib.Omega.{arith}
 use Rattle.machine.proofs.Refusing.{request-8, request-9, request-10, request-11}
-use borrow.Author.Tests.{not-true, not-false}
-use mathlib.Core.Path.{sym, ap, _∙_}
-use borrow.Author.Needs.{needs}
 use Rattle.machine.proofs.requests.request_in_range.Statement.{statement}
 use Rattle.machine.proofs.requests.request_in_range.Tie as tie
-use Rattle.machine.proofs.requests.request_in_range.Reads as reads
-use Rattle.machine.proofs.requests.request_in_range.Lts as lts
-use Rattle.machine.proofs.refuse.Reads as refuse-reads
-use Rattle.machine.proofs.requests.ask.Reads as ask-reads
-use Rattle.machine.proofs.requests.is_idle.Reads as is-idle-reads
-use Rattle.quorum.proofs.limits.up_to.Reads as up-to-reads
 
 cast-if1 : tie.Need-cast-if1
 cast-if1 c = search needs

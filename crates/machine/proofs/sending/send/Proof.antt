@@ -1,31 +1,25 @@
 -- `machine::sending::send` meets its contract. The lanes are those in which the entries before the one in hand were granted; none passes its limit.
 -- Assumes nothing.
-use Rattle.lists.specs.Cut.{cut}
-use Rattle.plain.specs.Up.{granting}
-use Rattle.plain.specs.declared.Message.{Message}
+use mathlib.Core.Bool.{true≢false}
 use mathlib.Core.List.{List}
-use Rattle.lists.specs.At.{at2}
-use borrow.Author.Tests.{le-ltb}
-use Rattle.lists.proofs.Searches.{some-empty}
-use Rattle.plain.specs.declared.Message.the-variants.{Grant}
-use Rattle.plain.specs.Lanes.{sent}
-use Rattle.machine.proofs.SendingGrants.{granted-before, before-first, before-next, still-room, would-pass}
-use Rattle.records.proofs.Viewing.{lane-length}
-use Rattle.records.specs.View.{noEntry, lanesOf, laneOf}
-use Rattle.plain.specs.Lanes.{downPlaces, passes}
+use mathlib.Core.Path.{_≡_, sym, ap, _∙_}
+use Prim.Native.Nat.{ℕ, _≤_, _<_, _-_, _+_}
 use native.Mathlib.Omega.{arith}
 use lib.ListN.{length, getD}
-use Prim.Native.Nat.{ℕ, _≤_, _<_, _-_, _+_}
-use mathlib.Core.Bool.{true≢false}
-use mathlib.Core.Path.{_≡_, refl, sym, ap, _∙_}
 use borrow.Author.Needs.{needs}
+use borrow.Author.Tests.{le-ltb}
+use Rattle.lists.specs.At.{at2}
+use Rattle.lists.specs.Cut.{cut}
+use Rattle.lists.proofs.Searches.{some-empty}
+use Rattle.plain.specs.Lanes.{sent, downPlaces, passes}
+use Rattle.plain.specs.Up.{granting}
+use Rattle.plain.specs.declared.Message.{Message}
+use Rattle.plain.specs.declared.Message.the-variants.{Grant}
+use Rattle.records.specs.View.{noEntry, lanesOf, laneOf}
+use Rattle.records.proofs.Viewing.{lane-length}
+use Rattle.machine.proofs.SendingGrants.{granted-before, before-first, before-next, still-room, would-pass}
 use Rattle.machine.proofs.sending.send.Statement.{statement}
 use Rattle.machine.proofs.sending.send.Tie as tie
-use Rattle.machine.proofs.sending.send.Reads as reads
-use Rattle.machine.proofs.sending.send.Lts as lts
-use Rattle.machine.proofs.lanes.lane_at.Reads as lane-at-reads
-use Rattle.machine.proofs.lanes.put.Reads as put-reads
-use Rattle.machine.proofs.lanes.with_lane.Reads as with-lane-reads
 
 abbrev Inv-loop : tie.InvT-loop
 Inv-loop n j grants line next₀ i₀ next i =

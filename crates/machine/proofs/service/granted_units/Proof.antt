@@ -1,18 +1,15 @@
 -- `machine::service::granted_units` meets its contract. Units of the stations before the one in hand; each has at most 255.
 -- Assumes nothing.
-use Rattle.records.proofs.Viewing.{granted-at}
-use Rattle.records.specs.View.{grantedOf}
-use Rattle.lists.proofs.Totals.{total-more}
-use Rattle.lists.specs.Counting.{total}
+use mathlib.Core.Path.{_≡_, refl, ap, _∙_}
+use Prim.Native.Nat.{_≤_, _*_, _-_}
 use native.Mathlib.Omega.{arith}
-use mathlib.Core.Path.{_≡_, refl, sym, ap, _∙_}
-use Prim.Native.Nat.{ℕ, _≤_, _*_, _-_}
 use borrow.Author.Needs.{needs}
+use Rattle.lists.specs.Counting.{total}
+use Rattle.lists.proofs.Totals.{total-more}
+use Rattle.records.specs.View.{grantedOf}
+use Rattle.records.proofs.Viewing.{granted-at}
 use Rattle.machine.proofs.service.granted_units.Statement.{statement}
 use Rattle.machine.proofs.service.granted_units.Tie as tie
-use Rattle.machine.proofs.service.granted_units.Reads as reads
-use Rattle.machine.proofs.service.granted_units.Lts as lts
-use Rattle.machine.proofs.service.wide.Reads as wide-reads
 
 abbrev Inv-loop : tie.InvT-loop
 Inv-loop n granted units₀ s₀ units s = (s ≤ n) × (units ≡ total (grantedOf n granted) s) × (units ≤ 255 * s)

@@ -1,24 +1,19 @@
 -- `machine::service::serve` meets its contract. What was granted before entry i, and what service makes of the rest; the loop ends where an entry does not fit, or at the end of the line.
 -- Assumes nothing.
-use Rattle.machine.proofs.ServingLine.{from-entry, ends-at, serve-more, serve-stop, serve-end}
-use Rattle.records.specs.View.{noEntry, grantedOf, arbiterOf}
-use Rattle.plain.specs.declared.Entry.{Entry}
-use Rattle.plain.specs.Arbiter.{Served, serve}
-use Rattle.lists.specs.Cut.{cut}
-use lib.ListN.{length, getD, drop}
-use native.Mathlib.Omega.{arith}
-use Prim.Native.Nat.{ℕ, _≤_, _<_, _+_, _-_}
-use mathlib.Core.Path.{_≡_, refl, sym, ap, _∙_}
-use mathlib.Core.Logic.{⊎-elim}
 use mathlib.Core.List.{List}
+use mathlib.Core.Logic.{⊎-elim}
+use mathlib.Core.Path.{_≡_, refl, sym, ap, _∙_}
+use Prim.Native.Nat.{_≤_, _+_, _-_}
+use native.Mathlib.Omega.{arith}
+use lib.ListN.{length, drop}
 use borrow.Author.Needs.{needs}
+use Rattle.lists.specs.Cut.{cut}
+use Rattle.plain.specs.Arbiter.{Served, serve}
+use Rattle.plain.specs.declared.Entry.{Entry}
+use Rattle.records.specs.View.{noEntry, grantedOf, arbiterOf}
+use Rattle.machine.proofs.ServingLine.{from-entry, ends-at, serve-more, serve-stop, serve-end}
 use Rattle.machine.proofs.service.serve.Statement.{statement}
 use Rattle.machine.proofs.service.serve.Tie as tie
-use Rattle.machine.proofs.service.serve.Reads as reads
-use Rattle.machine.proofs.service.serve.Lts as lts
-use Rattle.machine.proofs.service.granted_units.Reads as granted-units-reads
-use Rattle.machine.proofs.service.shifted.Reads as shifted-reads
-use Rattle.machine.proofs.service.wide.Reads as wide-reads
 
 abbrev Inv-loop : tie.InvT-loop
 Inv-loop n k len line granted₀ i₀ granted i =

@@ -1,20 +1,16 @@
 -- `machine::service::shifted` meets its contract. The places before the one in hand have what stands `by` places on.
 -- Assumes nothing.
-use mathlib.Core.Path.{_∙_}
-use borrow.Author.Count.{below-more}
-use lib.Seq.{getD-set-same, getD-set-other}
-use Rattle.records.specs.View.{noEntry}
-use Rattle.lists.proofs.Cuts.{cut-moved}
-use borrow.Author.Count.{below-none}
+use mathlib.Core.Path.{_∙_, _≡_}
+use Prim.Native.Nat.{ℕ, _+_, _≤_, _<_, _-_}
 use native.Mathlib.Omega.{arith}
 use lib.ListN.{length, getD}
-use mathlib.Core.Path.{_≡_}
-use Prim.Native.Nat.{ℕ, _+_, _≤_, _<_, _-_}
+use lib.Seq.{getD-set-same, getD-set-other}
+use borrow.Author.Count.{below-more, below-none}
 use borrow.Author.Needs.{needs}
+use Rattle.lists.proofs.Cuts.{cut-moved}
+use Rattle.records.specs.View.{noEntry}
 use Rattle.machine.proofs.service.shifted.Statement.{statement}
 use Rattle.machine.proofs.service.shifted.Tie as tie
-use Rattle.machine.proofs.service.shifted.Reads as reads
-use Rattle.machine.proofs.service.shifted.Lts as lts
 
 abbrev Inv-loop : tie.InvT-loop
 Inv-loop by line out₀ i₀ out i = (i + by ≤ 12) × (length out ≡ 12) × ((p : ℕ) → p < i → getD out p noEntry ≡ getD line (p + by) noEntry)

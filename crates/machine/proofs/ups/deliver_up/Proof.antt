@@ -1,22 +1,14 @@
 -- `machine::ups::deliver_up` meets its contract.
 -- Assumes nothing.
-use Rattle.machine.specs.Ready.{Granted}
-use Rattle.records.specs.View.{view}
+use mathlib.Core.Path.{sym, _∙_}
 use native.Mathlib.Omega.{arith}
+use borrow.Author.Needs.{needs}
+use Rattle.records.specs.View.{view}
 use Rattle.records.proofs.Good.{arbiters-of}
 use Rattle.machine.proofs.DeliveringUp.{up-line-full, up-lane-full, up-done}
 use Rattle.machine.proofs.RecordInRange.{arbiter-in, down-short, up-goes}
-use Rattle.machine.proofs.Refusing.{up-delivery, delivery-14, delivery-done}
-use mathlib.Core.Path.{sym, ap, _∙_}
-use borrow.Author.Needs.{needs}
 use Rattle.machine.proofs.ups.deliver_up.Statement.{statement}
 use Rattle.machine.proofs.ups.deliver_up.Tie as tie
-use Rattle.machine.proofs.ups.deliver_up.Reads as reads
-use Rattle.machine.proofs.ups.deliver_up.Lts as lts
-use Rattle.machine.proofs.delivery.deliver.Reads as deliver-reads
-use Rattle.machine.proofs.done.Reads as done-reads
-use Rattle.machine.proofs.refuse.Reads as refuse-reads
-use Rattle.machine.proofs.sending.send.Reads as send-reads
 
 cast-n : tie.Need-cast-n
 cast-n c = search needs

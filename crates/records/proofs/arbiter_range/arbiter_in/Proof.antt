@@ -1,16 +1,11 @@
 -- `records::arbiter_range::arbiter_in` meets its contract. The length of the line is tested first, so that no entry past the array is read.
 -- Assumes nothing.
-use Rattle.records.proofs.Ranging.{arbiter-long, arbiter-grants, arbiter-line}
-use mathlib.Core.Bool.{and-false}
-use borrow.Author.Tests.{lt-leb, le-leb, not-true, not-false}
-use mathlib.Core.Path.{_≡_, refl, sym, _∙_}
+use mathlib.Core.Path.{sym, _∙_}
 use borrow.Author.Needs.{needs}
+use borrow.Author.Tests.{not-true, not-false}
+use Rattle.records.proofs.Ranging.{arbiter-long, arbiter-grants, arbiter-line}
 use Rattle.records.proofs.arbiter_range.arbiter_in.Statement.{statement}
 use Rattle.records.proofs.arbiter_range.arbiter_in.Tie as tie
-use Rattle.records.proofs.arbiter_range.arbiter_in.Reads as reads
-use Rattle.records.proofs.arbiter_range.arbiter_in.Lts as lts
-use Rattle.records.proofs.arbiter_range.grants_in.Reads as grants-in-reads
-use Rattle.records.proofs.arbiter_range.line_in.Reads as line-in-reads
 
 cast-len : tie.Need-cast-len
 cast-len c = search needs

@@ -1,22 +1,17 @@
 -- `records::arbiter_range::arbiters_in` meets its contract. All arbiters before the one in hand are in range.
 -- Assumes nothing.
-use Rattle.records.proofs.Ranging.{arbiters-in}
-use Rattle.records.specs.View.{noArbiter, arbiterOf}
-use Rattle.plain.specs.InRange.{arbiterIn}
-use borrow.Author.Tests.{not-true, not-false}
-use lib.ListN.{getD}
-use Rattle.lists.specs.Search.{everyBelow}
-use native.Mathlib.Omega.{arith}
-use Rattle.lists.proofs.Searches.{Tested, tested-none, tested-more, tested-fails, tested-end}
+use mathlib.Core.Path.{_≡_, sym, _∙_}
 use Prim.Native.Nat.{_≤_, _<_, _-_}
-use mathlib.Core.Path.{_≡_, refl, sym, _∙_}
-use mathlib.Core.Bool.{true, false}
+use native.Mathlib.Omega.{arith}
+use lib.ListN.{getD}
 use borrow.Author.Needs.{needs}
+use borrow.Author.Tests.{not-true, not-false}
+use Rattle.lists.proofs.Searches.{Tested, tested-none, tested-more, tested-fails, tested-end}
+use Rattle.plain.specs.InRange.{arbiterIn}
+use Rattle.records.specs.View.{noArbiter, arbiterOf}
+use Rattle.records.proofs.Ranging.{arbiters-in}
 use Rattle.records.proofs.arbiter_range.arbiters_in.Statement.{statement}
 use Rattle.records.proofs.arbiter_range.arbiters_in.Tie as tie
-use Rattle.records.proofs.arbiter_range.arbiters_in.Reads as reads
-use Rattle.records.proofs.arbiter_range.arbiters_in.Lts as lts
-use Rattle.records.proofs.arbiter_range.arbiter_in.Reads as arbiter-in-reads
 
 abbrev Inv-loop : tie.InvT-loop
 Inv-loop n k arbiters j₀ j = (j ≤ n) × Tested (λ i. arbiterIn n k (arbiterOf n (getD arbiters i noArbiter))) j

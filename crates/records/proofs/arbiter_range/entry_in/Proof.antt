@@ -1,13 +1,10 @@
 -- `records::arbiter_range::entry_in` meets its contract. The station is tested first, then the units.
 -- Assumes nothing.
-use Rattle.plain.specs.InRange.{entryIn}
-use borrow.Author.Tests.{le-ltb, lt-ltb}
 use borrow.Author.Needs.{needs}
+use borrow.Author.Tests.{le-ltb, lt-ltb}
+use Rattle.plain.specs.InRange.{entryIn}
 use Rattle.records.proofs.arbiter_range.entry_in.Statement.{statement}
 use Rattle.records.proofs.arbiter_range.entry_in.Tie as tie
-use Rattle.records.proofs.arbiter_range.entry_in.Reads as reads
-use Rattle.records.proofs.arbiter_range.entry_in.Lts as lts
-use Rattle.quorum.proofs.limits.up_to.Reads as up-to-reads
 
 cast-if1 : tie.Need-cast-if1
 cast-if1 c = search needs

@@ -1,21 +1,15 @@
 -- `records::arbiter_range::grants_in` meets its contract. All stations before the one in hand have at most k.
 -- Assumes nothing.
-use Prim.Native.Nat.{_<_}
-use mathlib.Core.Path.{refl}
-use borrow.Author.Tests.{le-leb, lt-leb}
-use lib.ListN.{getD}
-use lib.Dec.{leb}
-use Rattle.lists.specs.Search.{everyBelow}
+use mathlib.Core.Path.{_≡_, sym}
+use Prim.Native.Nat.{_<_, _≤_, _-_}
 use native.Mathlib.Omega.{arith}
-use Rattle.lists.proofs.Searches.{Tested, tested-none, tested-more, tested-fails, tested-end}
-use Prim.Native.Nat.{_≤_, _-_}
-use mathlib.Core.Path.{_≡_, sym, _∙_}
-use mathlib.Core.Bool.{true, false}
+use lib.Dec.{leb}
+use lib.ListN.{getD}
 use borrow.Author.Needs.{needs}
+use borrow.Author.Tests.{le-leb, lt-leb}
+use Rattle.lists.proofs.Searches.{Tested, tested-none, tested-more, tested-fails, tested-end}
 use Rattle.records.proofs.arbiter_range.grants_in.Statement.{statement}
 use Rattle.records.proofs.arbiter_range.grants_in.Tie as tie
-use Rattle.records.proofs.arbiter_range.grants_in.Reads as reads
-use Rattle.records.proofs.arbiter_range.grants_in.Lts as lts
 
 abbrev Inv-loop : tie.InvT-loop
 Inv-loop n k granted s₀ s = (s ≤ n) × Tested (λ i. leb (getD granted i 0) k) s

@@ -1,23 +1,17 @@
 -- `records::arbiter_range::line_in` meets its contract. All entries before the one in hand are in range.
 -- Assumes nothing.
-use Prim.Native.Nat.{_<_}
-use Rattle.records.specs.View.{noEntry}
-use Rattle.plain.specs.InRange.{entryIn}
-use Rattle.lists.proofs.Cuts.{all-cut}
-use borrow.Author.Tests.{not-true, not-false}
-use lib.ListN.{getD}
-use Rattle.lists.specs.Search.{everyBelow}
+use mathlib.Core.Path.{_≡_, sym, _∙_}
+use Prim.Native.Nat.{_<_, _≤_, _-_}
 use native.Mathlib.Omega.{arith}
-use Rattle.lists.proofs.Searches.{Tested, tested-none, tested-more, tested-fails, tested-end}
-use Prim.Native.Nat.{_≤_, _-_}
-use mathlib.Core.Path.{_≡_, refl, sym, _∙_}
-use mathlib.Core.Bool.{true, false}
+use lib.ListN.{getD}
 use borrow.Author.Needs.{needs}
+use borrow.Author.Tests.{not-true, not-false}
+use Rattle.lists.proofs.Cuts.{all-cut}
+use Rattle.lists.proofs.Searches.{Tested, tested-none, tested-more, tested-fails, tested-end}
+use Rattle.plain.specs.InRange.{entryIn}
+use Rattle.records.specs.View.{noEntry}
 use Rattle.records.proofs.arbiter_range.line_in.Statement.{statement}
 use Rattle.records.proofs.arbiter_range.line_in.Tie as tie
-use Rattle.records.proofs.arbiter_range.line_in.Reads as reads
-use Rattle.records.proofs.arbiter_range.line_in.Lts as lts
-use Rattle.records.proofs.arbiter_range.entry_in.Reads as entry-in-reads
 
 abbrev Inv-loop : tie.InvT-loop
 Inv-loop len n k line i₀ i = (i ≤ len) × Tested (λ p. entryIn n k (getD line p noEntry)) i

@@ -1,13 +1,10 @@
 -- `records::lane_range::both_in` meets its contract. Lanes up first.
 -- Assumes nothing.
 use mathlib.Core.Path.{sym, _∙_}
-use borrow.Author.Tests.{not-true, not-false}
 use borrow.Author.Needs.{needs}
+use borrow.Author.Tests.{not-true, not-false}
 use Rattle.records.proofs.lane_range.both_in.Statement.{statement}
 use Rattle.records.proofs.lane_range.both_in.Tie as tie
-use Rattle.records.proofs.lane_range.both_in.Reads as reads
-use Rattle.records.proofs.lane_range.both_in.Lts as lts
-use Rattle.records.proofs.lane_range.lanes_in.Reads as lanes-in-reads
 
 lanes-in-requires : tie.Need-lanes-in-requires
 lanes-in-requires c κs = search needs

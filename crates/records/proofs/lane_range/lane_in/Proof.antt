@@ -1,27 +1,17 @@
 -- `records::lane_range::lane_in` meets its contract. All messages before the one in hand may stand in the lane.
 -- Assumes nothing.
-use Rattle.records.specs.Ranges.{lanePlaces}
-use Rattle.records.proofs.Ranging.{lane-long, lane-bad, lane-good}
-use mathlib.Core.Bool.{and-false}
-use Prim.Native.Nat.{_<_}
-use Rattle.records.specs.View.{noSlot}
-use Rattle.records.specs.Ranges.{goes}
-use borrow.Author.Tests.{lt-leb, le-leb}
-use borrow.Author.Tests.{not-true, not-false}
-use lib.ListN.{getD}
-use Rattle.lists.specs.Search.{everyBelow}
+use mathlib.Core.Path.{_≡_, sym, _∙_}
+use Prim.Native.Nat.{_<_, _≤_, _-_}
 use native.Mathlib.Omega.{arith}
-use Rattle.lists.proofs.Searches.{Tested, tested-none, tested-more, tested-fails, tested-end}
-use Prim.Native.Nat.{_≤_, _-_}
-use mathlib.Core.Path.{_≡_, refl, sym, _∙_}
-use mathlib.Core.Bool.{true, false}
+use lib.ListN.{getD}
 use borrow.Author.Needs.{needs}
+use borrow.Author.Tests.{not-true, not-false}
+use Rattle.lists.proofs.Searches.{Tested, tested-none, tested-more, tested-end}
+use Rattle.records.specs.Ranges.{lanePlaces, goes}
+use Rattle.records.specs.View.{noSlot}
+use Rattle.records.proofs.Ranging.{lane-long, lane-bad, lane-good}
 use Rattle.records.proofs.lane_range.lane_in.Statement.{statement}
 use Rattle.records.proofs.lane_range.lane_in.Tie as tie
-use Rattle.records.proofs.lane_range.lane_in.Reads as reads
-use Rattle.records.proofs.lane_range.lane_in.Lts as lts
-use Rattle.records.proofs.lane_range.message_goes.Reads as message-goes-reads
-use Rattle.records.proofs.lane_range.places.Reads as places-reads
 
 abbrev Inv-loop : tie.InvT-loop
 Inv-loop k upward len slots i₀ i = (i ≤ len) × Tested (λ p. goes upward k (getD slots p noSlot .message)) i

@@ -1,22 +1,17 @@
 -- `records::lane_range::lanes_in` meets its contract. All rows before the one in hand are in range.
 -- Assumes nothing.
-use Rattle.records.proofs.Ranging.{lanes-in}
-use Rattle.records.specs.View.{noRow, rowOf}
-use Rattle.records.specs.Ranges.{rowIn}
-use borrow.Author.Tests.{not-true, not-false}
-use lib.ListN.{getD}
-use Rattle.lists.specs.Search.{everyBelow}
-use native.Mathlib.Omega.{arith}
-use Rattle.lists.proofs.Searches.{Tested, tested-none, tested-more, tested-fails, tested-end}
+use mathlib.Core.Path.{_≡_, sym, _∙_}
 use Prim.Native.Nat.{_≤_, _<_, _-_}
-use mathlib.Core.Path.{_≡_, refl, sym, _∙_}
-use mathlib.Core.Bool.{true, false}
+use native.Mathlib.Omega.{arith}
+use lib.ListN.{getD}
 use borrow.Author.Needs.{needs}
+use borrow.Author.Tests.{not-true, not-false}
+use Rattle.lists.proofs.Searches.{Tested, tested-none, tested-more, tested-fails, tested-end}
+use Rattle.records.specs.Ranges.{rowIn}
+use Rattle.records.specs.View.{noRow, rowOf}
+use Rattle.records.proofs.Ranging.{lanes-in}
 use Rattle.records.proofs.lane_range.lanes_in.Statement.{statement}
 use Rattle.records.proofs.lane_range.lanes_in.Tie as tie
-use Rattle.records.proofs.lane_range.lanes_in.Reads as reads
-use Rattle.records.proofs.lane_range.lanes_in.Lts as lts
-use Rattle.records.proofs.lane_range.row_in.Reads as row-in-reads
 
 abbrev Inv-loop : tie.InvT-loop
 Inv-loop n k upward rows s₀ s = (s ≤ n) × Tested (λ i. rowIn upward n k (rowOf n (getD rows i noRow))) s

@@ -1,14 +1,10 @@
 -- `records::lane_range::message_goes` meets its contract. One case for each message.
 -- Assumes nothing.
-use Rattle.records.proofs.Ranging.{goes-release, goes-grant}
-use mathlib.Core.Path.{sym}
-use Rattle.plain.specs.InRange.{goesUp, goesDown}
 use borrow.Author.Needs.{needs}
+use Rattle.plain.specs.InRange.{goesUp, goesDown}
+use Rattle.records.proofs.Ranging.{goes-release, goes-grant}
 use Rattle.records.proofs.lane_range.message_goes.Statement.{statement}
 use Rattle.records.proofs.lane_range.message_goes.Tie as tie
-use Rattle.records.proofs.lane_range.message_goes.Reads as reads
-use Rattle.records.proofs.lane_range.message_goes.Lts as lts
-use Rattle.quorum.proofs.limits.up_to.Reads as up-to-reads
 
 enum-known-m : tie.Need-enum-known-m
 enum-known-m c = search needs

@@ -1,24 +1,18 @@
 -- `records::limits::limits_kept` meets its contract. A length past the array is no table's; otherwise the quorums are lent as a part of the array.
 -- Assumes nothing.
-use lib.Seq.{length-take-le}
-use Prim.Native.Nat.{ℕ}
 use mathlib.Core.List.{List}
-use mathlib.Core.Path.{_≡_}
-use Prim.Native.Nat.{min, _≤_}
-use lib.ListN.{length, length-take}
-use Rattle.records.proofs.Ranging.{too-many-quorums}
-use Rattle.quorum.specs.Limits.{brokenLimit}
-use Rattle.lists.proofs.Cuts.{cut-take}
-use lib.ListN.{length-take}
-use lib.Dec.{eqb}
-use native.Mathlib.Omega.{arith}
 use mathlib.Core.Path.{sym, ap, _∙_}
+use Prim.Native.Nat.{ℕ, _≤_}
+use native.Mathlib.Omega.{arith}
+use lib.Dec.{eqb}
+use lib.ListN.{length}
+use lib.Seq.{length-take-le}
 use borrow.Author.Needs.{needs}
+use Rattle.lists.proofs.Cuts.{cut-take}
+use Rattle.quorum.specs.Limits.{brokenLimit}
+use Rattle.records.proofs.Ranging.{too-many-quorums}
 use Rattle.records.proofs.limits.limits_kept.Statement.{statement}
 use Rattle.records.proofs.limits.limits_kept.Tie as tie
-use Rattle.records.proofs.limits.limits_kept.Reads as reads
-use Rattle.records.proofs.limits.limits_kept.Lts as lts
-use Rattle.quorum.proofs.limits.broken_limit.Reads as broken-limit-reads
 
 returns : tie.Need-returns
 returns c = sym (too-many-quorums _ _ _ _ (c .if1 .taken))

@@ -1,14 +1,11 @@
 -- `records::station_range::phase_in` meets its contract. One case for each phase.
 -- Assumes nothing.
 use mathlib.Core.Bool.{and-false, and-true}
+use borrow.Author.Needs.{needs}
 use borrow.Author.Tests.{le-ltb, lt-ltb}
 use Rattle.plain.specs.InRange.{phaseIn}
-use borrow.Author.Needs.{needs}
 use Rattle.records.proofs.station_range.phase_in.Statement.{statement}
 use Rattle.records.proofs.station_range.phase_in.Tie as tie
-use Rattle.records.proofs.station_range.phase_in.Reads as reads
-use Rattle.records.proofs.station_range.phase_in.Lts as lts
-use Rattle.records.proofs.station_range.wish_in.Reads as wish-in-reads
 
 enum-told : tie.Need-enum-told
 enum-told c = search needs

@@ -1,24 +1,18 @@
 -- `records::station_range::stations_in` meets its contract. All stations before the one in hand are in range.
 -- Assumes nothing.
-use Rattle.records.proofs.Ranging.{stations-in}
-use Prim.Native.Nat.{_<_}
-use Rattle.records.specs.View.{noStation}
-use Rattle.plain.specs.InRange.{phaseIn}
-use borrow.Author.Tests.{not-true, not-false}
-use Rattle.lists.specs.Search.{everyBelow}
-use native.Mathlib.Omega.{arith}
-use Rattle.lists.proofs.Searches.{Tested, tested-none, tested-more, tested-fails, tested-end}
-use lib.ListN.{length, getD}
 use mathlib.Core.List.{List}
-use Prim.Native.Nat.{ℕ, _≤_, _-_}
-use mathlib.Core.Path.{_≡_, refl, sym, _∙_}
-use mathlib.Core.Bool.{true, false}
+use mathlib.Core.Path.{_≡_, sym, _∙_}
+use Prim.Native.Nat.{_<_, ℕ, _≤_, _-_}
+use native.Mathlib.Omega.{arith}
+use lib.ListN.{length, getD}
 use borrow.Author.Needs.{needs}
+use borrow.Author.Tests.{not-true, not-false}
+use Rattle.lists.proofs.Searches.{Tested, tested-none, tested-more, tested-fails, tested-end}
+use Rattle.plain.specs.InRange.{phaseIn}
+use Rattle.records.specs.View.{noStation}
+use Rattle.records.proofs.Ranging.{stations-in}
 use Rattle.records.proofs.station_range.stations_in.Statement.{statement}
 use Rattle.records.proofs.station_range.stations_in.Tie as tie
-use Rattle.records.proofs.station_range.stations_in.Reads as reads
-use Rattle.records.proofs.station_range.stations_in.Lts as lts
-use Rattle.records.proofs.station_range.phase_in.Reads as phase-in-reads
 
 abbrev Inv-loop : tie.InvT-loop
 Inv-loop n k quorums stations s₀ s = (s ≤ n) × ((table : List ℕ) → length table ≡ quorums → Tested (λ i. phaseIn n k table (getD stations i noStation .phase)) s)

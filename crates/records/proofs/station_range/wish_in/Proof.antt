@@ -1,12 +1,9 @@
 -- `records::station_range::wish_in` meets its contract. The quorum is tested first, then the units.
 -- Assumes nothing.
-use borrow.Author.Tests.{le-ltb, lt-ltb}
 use borrow.Author.Needs.{needs}
+use borrow.Author.Tests.{le-ltb, lt-ltb}
 use Rattle.records.proofs.station_range.wish_in.Statement.{statement}
 use Rattle.records.proofs.station_range.wish_in.Tie as tie
-use Rattle.records.proofs.station_range.wish_in.Reads as reads
-use Rattle.records.proofs.station_range.wish_in.Lts as lts
-use Rattle.quorum.proofs.limits.up_to.Reads as up-to-reads
 
 returns : tie.Need-returns
 returns c = rw (le-ltb _ _ (c .if1 .taken))
