@@ -20,22 +20,22 @@ fn deliver_up(r: Record, s: usize, j: usize, m: Message, rest: Lanes) -> Answer
     ensures refused { λ a. ⌜ (0 < a .refusal → a .«record» ≡ r) ⌝ }
 {
     let n = r.n as usize;
+    let mut next = r;
+    next.up = rest;
     let before = r.arbiters[j];
     let delivery = delivery::deliver(before, n, r.stock as usize, s, m);
     if delivery.full {
-        return crate::refuse(r, refusals::NO_PLACE);
+        return crate::refuse(r, refusals::NO_PLACE); // in the line
     }
     let down = r.down;
     let line = delivery.line;
     let sent = sending::send(down, n, j, line, delivery.grants);
     if sent.full {
-        return crate::refuse(r, refusals::NO_PLACE);
+        return crate::refuse(r, refusals::NO_PLACE); // in a lane down
     }
     let after = delivery.arbiter;
     let lanes = sent.lanes;
-    let mut next = r;
     next.arbiters[j] = after;
-    next.up = rest;
     next.down = lanes;
     crate::done(next)
 }

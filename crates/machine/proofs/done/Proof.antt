@@ -1,4 +1,4 @@
--- `machine::done` meets its contract.
+-- `machine::done` meets its contract. It answers the record's own state.
 -- Assumes nothing.
 use mathlib.Core.Path.{refl}
 use Rattle.machine.specs.Answers.{answerOf}

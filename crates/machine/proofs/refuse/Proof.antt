@@ -1,4 +1,4 @@
--- `machine::refuse` meets its contract.
+-- `machine::refuse` meets its contract. It hands the record back.
 -- Assumes nothing.
 use mathlib.Core.Path.{refl}
 use Rattle.machine.specs.Answers.{answerOf}

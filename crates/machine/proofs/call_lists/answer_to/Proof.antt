@@ -1,4 +1,4 @@
--- `machine::call_lists::answer_to` meets its contract.
+-- `machine::call_lists::answer_to` meets its contract. One case for each call.
 -- Assumes nothing.
 use mathlib.Core.Path.{sym, ap, _∙_}
 use borrow.Author.Needs.{needs}

@@ -1,4 +1,4 @@
--- `machine::call_lists::is_formed` meets its contract.
+-- `machine::call_lists::is_formed` meets its contract. One case for each kind of call.
 -- Assumes nothing.
 use mathlib.Core.Path.{sym}
 use Rattle.machine.proofs.PerformingCalls.{formed-request, formed-units, formed-release, formed-others}

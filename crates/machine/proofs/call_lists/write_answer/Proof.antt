@@ -1,4 +1,4 @@
--- `machine::call_lists::write_answer` meets its contract.
+-- `machine::call_lists::write_answer` meets its contract. Three stores, one after the other.
 -- Assumes nothing.
 use mathlib.Core.Path.{refl}
 use Prim.Native.Nat.{_+_}

@@ -1,4 +1,4 @@
--- `machine::downs::drops` meets its contract.
+-- `machine::downs::drops` meets its contract. Only the lanes down change.
 -- Assumes nothing.
 use mathlib.Core.Path.{sym, _∙_}
 use borrow.Author.Needs.{needs}

@@ -1,4 +1,4 @@
--- `machine::downs::holds` meets its contract.
+-- `machine::downs::holds` meets its contract. The station and the lanes down change.
 -- Assumes nothing.
 use mathlib.Core.Path.{refl, sym}
 use native.Mathlib.Omega.{arith}

@@ -1,4 +1,4 @@
--- `machine::downs::receive` meets its contract.
+-- `machine::downs::receive` meets its contract. What the station makes of the GRANT, by its phase.
 -- Assumes nothing.
 use mathlib.Core.Path.{_≡_, sym, ap, _∙_}
 use native.Mathlib.Omega.{arith}

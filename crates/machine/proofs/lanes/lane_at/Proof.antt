@@ -1,4 +1,4 @@
--- `machine::lanes::lane_at` meets its contract.
+-- `machine::lanes::lane_at` meets its contract. The lane is read from its station's row.
 -- Assumes nothing.
 use borrow.Author.Needs.{needs}
 use Rattle.records.proofs.Viewing.{lanes-at}

@@ -1,4 +1,4 @@
--- `machine::lanes::put` meets its contract.
+-- `machine::lanes::put` meets its contract. The message takes the place after the last.
 -- Assumes nothing.
 use native.Mathlib.Omega.{arith}
 use borrow.Author.Needs.{needs}

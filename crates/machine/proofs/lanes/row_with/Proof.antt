@@ -1,4 +1,4 @@
--- `machine::lanes::row_with` meets its contract.
+-- `machine::lanes::row_with` meets its contract. One lane is another.
 -- Assumes nothing.
 use native.Mathlib.Omega.{arith}
 use borrow.Author.Needs.{needs}

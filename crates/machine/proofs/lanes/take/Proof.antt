@@ -1,4 +1,4 @@
--- `machine::lanes::take` meets its contract.
+-- `machine::lanes::take` meets its contract. All messages but the first move one place on.
 -- Assumes nothing.
 use borrow.Author.Needs.{needs}
 use Rattle.records.proofs.Good.{slots-of}

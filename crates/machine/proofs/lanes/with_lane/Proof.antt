@@ -1,4 +1,4 @@
--- `machine::lanes::with_lane` meets its contract.
+-- `machine::lanes::with_lane` meets its contract. One lane of one row is another.
 -- Assumes nothing.
 use native.Mathlib.Omega.{arith}
 use borrow.Author.Needs.{needs}

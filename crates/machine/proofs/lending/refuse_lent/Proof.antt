@@ -1,4 +1,4 @@
--- `machine::lending::refuse_lent` meets its contract.
+-- `machine::lending::refuse_lent` meets its contract. It hands the arbiter back.
 -- Assumes nothing.
 use mathlib.Core.Path.{refl}
 use Rattle.machine.specs.Lent.{lentOf}

@@ -1,4 +1,4 @@
--- `machine::opening::blank` meets its contract.
+-- `machine::opening::blank` meets its contract. Every place stands for idle or empty.
 -- Assumes nothing.
 use borrow.Author.Needs.{needs}
 use Rattle.machine.proofs.OpeningRecord.{blank-fresh}

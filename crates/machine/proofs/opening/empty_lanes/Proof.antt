@@ -1,4 +1,4 @@
--- `machine::opening::empty_lanes` meets its contract.
+-- `machine::opening::empty_lanes` meets its contract. Every lane has length 0.
 -- Assumes nothing.
 use Rattle.machine.proofs.OpeningRecord.{empty-lanes}
 use Rattle.machine.proofs.opening.empty_lanes.Statement.{statement}

@@ -1,4 +1,4 @@
--- `machine::opening::fresh` meets its contract.
+-- `machine::opening::fresh` meets its contract. The table is copied into its array.
 -- Assumes nothing.
 use mathlib.Core.List.{List}
 use mathlib.Core.Path.{ap, _∙_}

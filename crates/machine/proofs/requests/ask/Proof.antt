@@ -1,4 +1,4 @@
--- `machine::requests::ask` meets its contract.
+-- `machine::requests::ask` meets its contract. 14 where the lane would pass its limit.
 -- Assumes nothing.
 use mathlib.Core.Path.{sym, ap, _∙_}
 use Prim.Native.Nat.{_<_}

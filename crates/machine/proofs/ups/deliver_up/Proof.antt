@@ -1,4 +1,4 @@
--- `machine::ups::deliver_up` meets its contract.
+-- `machine::ups::deliver_up` meets its contract. 14 where the line or a lane down would pass its limit; otherwise all of it is stored at once.
 -- Assumes nothing.
 use mathlib.Core.Path.{sym, _∙_}
 use native.Mathlib.Omega.{arith}
