@@ -1,44 +1,36 @@
 // P11 and P12 as one lent list of calls, and lists that are refused as a whole.
 use crate::report;
 use machine::DO_DOWN;
-use machine::DO_REQUEST;
 use machine::DO_UP;
 use records::Record;
 
-const CALLS: [u16; 32] = [
-    DO_REQUEST,
-    0,
-    0,
-    1,
-    DO_UP,
-    0,
-    0,
-    0,
-    DO_DOWN,
-    0,
-    0,
-    0,
-    DO_UP,
-    0,
-    1,
-    0,
-    DO_DOWN,
-    0,
-    1,
-    0,
-    DO_REQUEST,
-    1,
-    2,
-    1,
-    DO_UP,
-    1,
-    1,
-    0,
-    DO_DOWN,
-    1,
-    1,
-    0,
-];
+// The numbers of P11's five calls; those that are 0 stand there already.
+fn p11() -> [u16; 32] {
+    let mut calls = [0u16; 32];
+    calls[3] = 1;
+    calls[4] = DO_UP;
+    calls[8] = DO_DOWN;
+    calls[12] = DO_UP;
+    calls[14] = 1;
+    calls[16] = DO_DOWN;
+    calls[18] = 1;
+    calls
+}
+
+// With P12's three after them.
+fn p12() -> [u16; 32] {
+    let mut calls = p11();
+    calls[21] = 1;
+    calls[22] = 2;
+    calls[23] = 1;
+    calls[24] = DO_UP;
+    calls[25] = 1;
+    calls[26] = 1;
+    calls[28] = DO_DOWN;
+    calls[29] = 1;
+    calls[30] = 1;
+    calls
+}
 
 fn print_number(number: u16) {
     report::number(b" ", number as usize);
@@ -76,8 +68,10 @@ fn short(name: &[u8], r: Record, calls: &[u16]) {
 }
 
 pub(crate) fn run(p2: Record) {
-    let calls = CALLS;
+    let calls = p12();
     list(b"P11 and P12, performed", p2, &calls);
-    short(b"refusal 15, performed", p2, &calls[..31]);
     short(b"refusal 16, performed", p2, &calls);
+    let mut unknown = calls;
+    unknown[28] = 4;
+    short(b"refusal 15, performed", p2, &unknown);
 }
