@@ -14,5 +14,6 @@ pub mod PerformingCalls
 pub mod GoingOn
 pub mod PerformingList
 pub mod LendingArbiter
+pub mod LendingExamples
 pub mod Tracing
 pub mod Claim
