@@ -8,10 +8,10 @@ use borrow.Author.Tests.{eq-eqb, ne-eqb}
 use Rattle.lists.specs.Cut.{cut}
 use Rattle.lists.proofs.Arrays.{shown-none, replicate-all}
 use Rattle.quorum.specs.Refusal.{refusal}
-use Rattle.plain.specs.State.{fresh}
+use Rattle.plain.specs.State.{emptyArbiter, fresh}
 use Rattle.plain.specs.declared.Entry.{Entry}
 use Rattle.plain.specs.declared.Phase.the-variants.{Idle}
-use Rattle.records.specs.View.{noLane, noRow, noStation, noArbiter, laneOf, rowOf, lanesOf, phaseOf, phasesOf, grantedOf, emptyArbiter, arbiterOf, arbitersOf, view}
+use Rattle.records.specs.View.{noLane, noRow, noStation, noArbiter, laneOf, rowOf, lanesOf, phaseOf, phasesOf, grantedOf, arbiterOf, arbitersOf, view}
 use Rattle.records.specs.declared.Arbiter.{Arbiter}
 use Rattle.records.specs.declared.Lane.{Lane}
 use Rattle.records.specs.declared.Lanes.{Lanes}

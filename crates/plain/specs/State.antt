@@ -22,6 +22,10 @@ pub record State : Type 0 where
   pub up : ℕ → ℕ → List Message
   pub down : ℕ → ℕ → List Message
 
+-- an arbiter that has granted nothing and at which nobody waits
+abbrev pub emptyArbiter : Arbiter
+emptyArbiter = record { granted = λ s. 0; line = [] }
+
 -- "At the start all is idle and empty."
 unfoldable pub fresh : ℕ → ℕ → List ℕ → State
 fresh n k table =
@@ -30,7 +34,7 @@ fresh n k table =
       stock = k;
       table = table;
       phase = λ s. Idle;
-      arbiter = λ j. record { granted = λ s. 0; line = [] };
+      arbiter = λ j. emptyArbiter;
       up = λ s j. [];
       down = λ s j. [];
     }

@@ -3,7 +3,7 @@ use mathlib.Core.List.{List, [], map}
 use Prim.Native.Nat.{ℕ}
 use Rattle.lists.specs.Cut.{cut}
 use Rattle.lists.specs.Shown.{shown}
-use Rattle.plain.specs.State.{Arbiter as PlainArbiter, State}
+use Rattle.plain.specs.State.{Arbiter as PlainArbiter, State, emptyArbiter}
 use Rattle.plain.specs.declared.Entry.{Entry}
 use Rattle.plain.specs.declared.Message.{Message}
 use Rattle.plain.specs.declared.Message.the-variants.{Request}
@@ -68,10 +68,6 @@ grantedOf n granted = shown n 0 (λ units. units) 0 granted
 -- an arbiter of n stations
 unfoldable pub arbiterOf : ℕ → Arbiter → PlainArbiter
 arbiterOf n a = record { granted = grantedOf n (a .granted); line = cut noEntry (a .len) (a .line) }
-
--- an arbiter that has granted nothing and at which nobody waits
-abbrev pub emptyArbiter : PlainArbiter
-emptyArbiter = record { granted = λ s. 0; line = [] }
 
 -- all arbiters: empty from n on
 unfoldable pub arbitersOf : ℕ → List Arbiter → ℕ → PlainArbiter

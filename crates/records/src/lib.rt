@@ -16,7 +16,7 @@ mod limits;
 mod station_range;
 
 // A record has room for so many stations, and a line for so many entries.
-pub const STATIONS: usize = 12;
+pub const STATIONS: usize = quorum::MOST_STATIONS;
 
 pub const LINE_PLACES: usize = 12;
 
