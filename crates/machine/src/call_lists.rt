@@ -17,7 +17,7 @@ use crate::DO_REQUEST;
 use crate::DO_UP;
 use records::Record;
 
-fn is_formed(what: u16, with: u16, units: u16) -> bool
+pub fn is_formed(what: u16, with: u16, units: u16) -> bool
     ensures { λ r. ⌜ r ≡ formed what with units ⌝ }
 {
     if what == DO_REQUEST {

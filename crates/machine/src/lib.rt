@@ -33,6 +33,8 @@ mod sending;
 mod service;
 mod ups;
 
+pub use call_lists::is_formed;
+
 // What a call answers. A refused call enters and leaves 0 units and hands back the record that it was given.
 pub struct Answer {
     pub refusal: u8,
