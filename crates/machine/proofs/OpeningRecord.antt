@@ -8,7 +8,7 @@ use borrow.Author.Tests.{eq-eqb, ne-eqb}
 use Rattle.lists.specs.Cut.{cut}
 use Rattle.lists.proofs.Arrays.{shown-none, replicate-all}
 use Rattle.quorum.specs.Refusal.{refusal}
-use Rattle.plain.specs.State.{emptyArbiter, fresh}
+use Rattle.plain.specs.State.{State, emptyArbiter, fresh}
 use Rattle.plain.specs.declared.Entry.{Entry}
 use Rattle.plain.specs.declared.Phase.the-variants.{Idle}
 use Rattle.records.specs.View.{noLane, noRow, noStation, noArbiter, laneOf, rowOf, lanesOf, phaseOf, phasesOf, grantedOf, arbiterOf, arbitersOf, view}
@@ -74,14 +74,19 @@ blank-fresh n k quorums table m line lanes e = rw (idle-stations n m, empty-arbi
 
 -- ---- what opening answers, from the refusal of the check
 
-module _ (n k : ℕ) (table : List ℕ) (room : ℕ) (opened : Opened) (said : opened .refusal ≡ refusal n k table room) where
-  pub opening-refused : (opened .refusal ≡ 0 → ⊥) → view (opened .«record») ≡ emptyRecord → openedOf opened ≡ opening n k table room
-  unfolding openedOf opening
-  opening-refused d e = rw (e, sym said, ne-eqb (opened .refusal) 0 d)
+module _ (n k : ℕ) (table : List ℕ) (room : ℕ) (r : ℕ) (said : r ≡ refusal n k table room) (state : State) where
+  pub opening-refused : (r ≡ 0 → ⊥) → state ≡ emptyRecord → state ≡ opening n k table room .state
+  unfolding opening
+  opening-refused d e = e ∙ rw (sym said, ne-eqb r 0 d)
 
-  pub opening-fresh : opened .refusal ≡ 0 → view (opened .«record») ≡ fresh n k table → openedOf opened ≡ opening n k table room
-  unfolding openedOf opening
-  opening-fresh z e = rw (e, sym said, eq-eqb (opened .refusal) 0 z)
+  pub opening-fresh : r ≡ 0 → state ≡ fresh n k table → state ≡ opening n k table room .state
+  unfolding opening
+  opening-fresh z e = e ∙ rw (sym said, eq-eqb r 0 z)
+
+pub opening-both : (n k : ℕ) (table : List ℕ) (room : ℕ) (opened : Opened) → opened .refusal ≡ refusal n k table room
+    → view (opened .«record») ≡ opening n k table room .state → openedOf opened ≡ opening n k table room
+unfolding openedOf opening
+opening-both n k table room opened er es = rw (er, es)
 
 -- and what its answer means where the check refuses nothing
 pub opened-fresh : (n k : ℕ) (table : List ℕ) (room : ℕ) (opened : Opened) → openedOf opened ≡ opening n k table room → refusal n k table room ≡ 0

@@ -11,6 +11,7 @@ ghost use Rattle.plain.specs.Up.{up as upOf};
 ghost use Rattle.plain.specs.Run.{run};
 ghost use Rattle.plain.specs.State.{fresh};
 ghost use Rattle.quorum.specs.Accepted.{Accepted};
+ghost use Rattle.quorum.specs.Answer.{said, answer};
 ghost use Rattle.quorum.specs.Scratch.{cleaned};
 ghost use Rattle.quorum.specs.Limits.{mostStations};
 ghost use Rattle.records.specs.View.{arbiterOf, view};
@@ -18,6 +19,7 @@ ghost use Rattle.machine.specs.Answers.{answerOf};
 ghost use Rattle.machine.specs.Lent.{lending, lentOf};
 ghost use Rattle.machine.specs.Opening.{opening, openedOf};
 ghost use Rattle.machine.specs.Performing.{callsOf, performance, performedOf, answersIn, Within};
+use quorum::Checked;
 use records::Arbiter;
 use records::Record;
 
@@ -82,6 +84,12 @@ pub struct Reply {
     pub granted: u16,
 }
 
+// What opening answers with all that the check says of the table.
+pub struct Inspected {
+    pub checked: Checked,
+    pub record: Record,
+}
+
 // What opening answers.
 pub struct Opened {
     pub refusal: u8,
@@ -113,21 +121,36 @@ fn done(r: Record) -> Answer
     }
 }
 
-// The refusal of the check, and a fresh record of the table, or on a refusal the empty record. The scratch is left as the check leaves it.
-pub fn open(n: usize, k: usize, quorums: &[u16], scratch: &mut [u8]) -> Opened
-    ensures opened { λ r. ⌜ openedOf r ≡ opening n k (now (quorums .entry)) (length (now (scratch .entry))) ⌝ }
+// The whole answer of the check, and a fresh record of the table, or on a refusal the empty record. The scratch is left as the check leaves
+// it.
+pub fn inspect(n: usize, k: usize, quorums: &[u16], scratch: &mut [u8]) -> Inspected
+    ensures checked { λ r. ⌜ said (r .checked) ≡ answer n k (now (quorums .entry)) (length (now (scratch .entry))) ⌝ }
+    ensures state { λ r. ⌜ view (r .«record») ≡ opening n k (now (quorums .entry)) (length (now (scratch .entry))) .state ⌝ }
     ensures cleaned { λ _. ⌜ now (scratch .exit) ≡ cleaned (now (scratch .entry)) ⌝ }
 {
     let checked = quorum::check(n, k, quorums, scratch);
-    let refusal = checked.refusal;
-    if refusal != refusals::NO_REFUSAL {
-        return Opened {
-            refusal,
+    if checked.refusal != refusals::NO_REFUSAL {
+        return Inspected {
+            checked,
             record: opening::blank(0, 0, 0, [0u16; quorum::MOST_QUORUMS]),
         };
     }
     let record = opening::fresh(n, k, quorums);
-    Opened { refusal, record }
+    Inspected { checked, record }
+}
+
+// The refusal of the check, and the same record.
+pub fn open(n: usize, k: usize, quorums: &[u16], scratch: &mut [u8]) -> Opened
+    ensures opened { λ r. ⌜ openedOf r ≡ opening n k (now (quorums .entry)) (length (now (scratch .entry))) ⌝ }
+    ensures cleaned { λ _. ⌜ now (scratch .exit) ≡ cleaned (now (scratch .entry)) ⌝ }
+{
+    let inspected = inspect(n, k, quorums, scratch);
+    let checked = inspected.checked;
+    let record = inspected.record;
+    Opened {
+        refusal: checked.refusal,
+        record,
+    }
 }
 
 // Station s asks for h units by quorum q.

@@ -1,73 +1,30 @@
--- `machine::open` meets its contract. The check first; what it refuses gets the empty record.
+-- `machine::open` meets its contract. What `inspect` answers, of which the check's refusal is kept.
 -- Assumes nothing.
-use mathlib.Core.List.{List}
-use mathlib.Core.Path.{_≡_, sym, ap, _∙_}
-use Prim.Native.Nat.{ℕ}
+use mathlib.Core.Path.{ap, _∙_}
 use lib.ListN.{length}
 use borrow.Author.Needs.{needs}
 use Rattle.quorum.specs.Answer.{Answer, said, answer}
 use Rattle.quorum.specs.Refusal.{refusal}
-use Rattle.quorum.proofs.Accepts.{passed}
-use Rattle.quorum.proofs.LimitLaws.{limits-kept}
 use Rattle.quorum.proofs.Refusals.{answer-refusal}
-use Rattle.machine.proofs.OpeningRecord.{opening-refused, opening-fresh}
+use Rattle.machine.proofs.OpeningRecord.{opening-both}
 use Rattle.machine.proofs.open.Statement.{statement}
 use Rattle.machine.proofs.open.Tie as tie
 
-check-requires : tie.Need-check-requires
-check-requires c κs = search needs
-
-blank-requires : tie.Need-blank-requires
-blank-requires c κs = search needs
+inspect-requires : tie.Need-inspect-requires
+inspect-requires c κs = search needs
 
 same-length : tie.Need-same-length
 same-length c = search needs
 
-module _ (c : tie.After-check) where
-  abbrev start : tie.Start
-  start = c .before .before .before .before
-
-  abbrev table : List ℕ
-  table = start .args .quorums .now
-
-  abbrev room : ℕ
-  room = length (start .args .scratch .now)
-
-  -- the refusal that the check gives
-  refused : c .check .result .refusal ≡ refusal (start .args .n) (start .args .k) table room
-  unfolding said answer
-  refused = ap (λ (a : Answer). a .refusal) (c .check .ensures .0) ∙ answer-refusal (start .args .n) table (refusal (start .args .n) (start .args .k) table room)
-
 returns : tie.Need-returns
+unfolding said answer
 returns c =
-    let a = c .before .before .before .before in
-    let st = start a in
-    (opening-refused (st .args .n) (st .args .k) (table a) (room a) _ (refused a) (c .before .if1 .taken) (c .blank .ensures), a .check .ensures .1)
-
-fresh-requires : tie.Need-fresh-requires
-fresh-requires c κs =
-    let a = c .before .before .before in
-    let st = start a in
-    let kept = limits-kept (st .args .n) (st .args .k) (table a) (passed (st .args .n) (st .args .k) (table a) (room a) (sym (refused a) ∙ c .if1 .left) .0 .limits) in
-    (kept .stations .1, kept .stock .1, kept .quorums .1)
-
-same-length-2 : tie.Need-same-length-2
-same-length-2 c = search needs
-
-returns-2 : tie.Need-returns-2
-returns-2 c =
-    let a = c .before .before .before .before in
-    let st = start a in
-    (opening-fresh (st .args .n) (st .args .k) (table a) (room a) _ (refused a) (c .before .if1 .left) (c .fresh .ensures), a .check .ensures .1)
+    let i = c .before .before .before .before in
+    let st = i .before .before .before .before in
+    let table = st .args .quorums .now in
+    let room = length (st .args .scratch .now) in
+    let refused = ap (λ (a : Answer). a .refusal) (i .inspect .ensures .0) ∙ answer-refusal (st .args .n) table (refusal (st .args .n) (st .args .k) table room) in
+    (opening-both (st .args .n) (st .args .k) table room _ refused (i .inspect .ensures .1 .0), i .inspect .ensures .1 .1)
 
 pub open-spec : {M : Type 1} → statement M
-open-spec =
-    tie.close
-    (tie.spec
-    check-requires
-    blank-requires
-    same-length
-    returns
-    fresh-requires
-    same-length-2
-    returns-2)
+open-spec = tie.close (tie.spec inspect-requires same-length returns)
