@@ -1,4 +1,4 @@
-// An arbiter's record that is lent to one call for each message, by value.
+// What the call for one message makes of a station's own arbiter record, by value.
 ghost use mathlib.Core.Path.{_≡_};
 ghost use Prim.Native.Nat.{_≤_, _<_};
 ghost use Rattle.lists.specs.Cut.{cut};
@@ -9,6 +9,7 @@ ghost use Rattle.machine.specs.Lent.{isGranted, grantedSet, turnedAway, 
 ghost use Rattle.machine.specs.Ready.{Lends};
 use crate::Incoming;
 use crate::Reply;
+use crate::Settled;
 use crate::Upward;
 use crate::delivery;
 use plain::Entry;
@@ -16,11 +17,6 @@ use plain::Message;
 use records::Arbiter;
 use records::LINE_PLACES;
 use records::STATIONS;
-
-pub(crate) struct Settled {
-    pub reply: Reply,
-    pub arbiter: Arbiter,
-}
 
 // Whether station t is among the first entries of the line.
 fn is_granted(line: [Entry; LINE_PLACES], grants: usize, t: usize) -> bool
@@ -89,8 +85,9 @@ fn deliver_lent(a: Arbiter, k: usize, s: usize, m: Message) -> Settled
     }
 }
 
-// A message of a station, whose stock and number any caller may give.
-pub(crate) fn settle(a: Arbiter, i: Incoming) -> Settled
+// A message of a station, whose stock and number any caller may give: the arbiter's part of Up on its record, by value. A refusal answers the
+// empty set and changes nothing.
+pub fn settle(a: Arbiter, i: Incoming) -> Settled
     ensures { λ r. ⌜ (lentOf (r .reply) (r .arbiter) ≡ lending (i .stock) (i .station) (i .message) (arbiterOf mostStations a)) × (0 < r .reply .refusal → r .arbiter ≡ a) ⌝ }
 {
     let k = i.stock;

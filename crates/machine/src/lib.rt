@@ -13,10 +13,8 @@ ghost use Rattle.plain.specs.State.{fresh};
 ghost use Rattle.quorum.specs.Accepted.{Accepted};
 ghost use Rattle.quorum.specs.Answer.{said, answer};
 ghost use Rattle.quorum.specs.Scratch.{cleaned};
-ghost use Rattle.quorum.specs.Limits.{mostStations};
-ghost use Rattle.records.specs.View.{arbiterOf, view};
+ghost use Rattle.records.specs.View.{view};
 ghost use Rattle.machine.specs.Answers.{answerOf};
-ghost use Rattle.machine.specs.Lent.{lending, lentOf};
 ghost use Rattle.machine.specs.Opening.{opening, openedOf};
 ghost use Rattle.machine.specs.Performing.{callsOf, performance, performedOf, answersIn, Within};
 use quorum::Checked;
@@ -36,6 +34,7 @@ mod service;
 mod ups;
 
 pub use call_lists::is_formed;
+pub use lending::settle;
 
 // What a call answers. A refused call enters and leaves 0 units and hands back the record that it was given.
 pub struct Answer {
@@ -71,17 +70,24 @@ pub enum Upward {
     Release,
 }
 
-// A message that reaches a lent arbiter: the stock, the station that sent it, and the message.
+// A message that reaches a station's own arbiter: the stock, the station that sent it, and the message.
 pub struct Incoming {
     pub stock: usize,
     pub station: usize,
     pub message: Upward,
 }
 
-// What the call on a lent arbiter answers: the refusal, and the set of stations granted.
+// What is answered to it: the refusal, and the set of stations granted.
+#[repr(C)]
 pub struct Reply {
     pub refusal: u8,
     pub granted: u16,
+}
+
+// The reply, and the arbiter's record after it.
+pub struct Settled {
+    pub reply: Reply,
+    pub arbiter: Arbiter,
 }
 
 // What opening answers with all that the check says of the table.
@@ -222,14 +228,4 @@ pub fn perform(r: Record, calls: &[u16], answers: &mut [u16]) -> Performed
         refusal: refusals::NO_REFUSAL,
         record,
     }
-}
-
-// A station lends its own arbiter's record to one call for each message that reaches it. The call applies the arbiter's part of Up and
-// answers the set of stations granted; a refusal answers the empty set and changes nothing.
-pub fn tell(a: &mut Arbiter, i: Incoming) -> Reply
-    ensures { λ r. ⌜ (lentOf r (now (a .exit)) ≡ lending (i .stock) (i .station) (i .message) (arbiterOf mostStations (now (a .entry)))) × (0 < r .refusal → now (a .exit) ≡ now (a .entry)) ⌝ }
-{
-    let settled = lending::settle(*a, i);
-    *a = settled.arbiter;
-    settled.reply
 }

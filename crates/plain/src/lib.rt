@@ -15,6 +15,7 @@ pub enum Phase {
 }
 
 // A place in an arbiter's line.
+#[repr(C)]
 pub struct Entry {
     pub station: u8,
     pub units: u8,

@@ -27,6 +27,7 @@ pub const MOST_UNITS: usize = 200;
 pub const MOST_QUORUMS: usize = 64;
 
 // What the check answers. The family is the first `size` places of its array.
+#[repr(C)]
 pub struct Checked {
     pub refusal: u8,
     pub width: usize,

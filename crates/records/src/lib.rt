@@ -50,6 +50,7 @@ pub struct Station {
 }
 
 // The units granted to each station, and the line of those that wait, oldest first.
+#[repr(C)]
 pub struct Arbiter {
     pub granted: [u8; STATIONS],
     pub len: u8,

@@ -12,6 +12,7 @@ mod singletons;
 mod uniforms;
 
 // What the maker of a table answers: the refusal, and the number of quorums written, 0 on a refusal.
+#[repr(C)]
 pub struct Made {
     pub refusal: u8,
     pub quorums: usize,

@@ -1,5 +1,5 @@
--- `machine::tell` meets its contract: a walk of its MIR, by hand. The borrow is opened, the arbiter is copied out of it and passed to `settle` with the message, and
--- what `settle` returns is stored there and answered. All that the walk knows of `settle` is that it meets its contract.
+-- `pafluzeno::pafluzeno_tell` meets its contract: a walk of its MIR, by hand. The borrow is opened, the arbiter is copied out of it and passed to `settled` with the
+-- message, and what `settled` returns is stored there and answered. All that the walk knows of `settled` is that it meets its contract.
 -- Assumes nothing.
 use mathlib.Core.List.{[], _∷_, List, head-eq-of-cons-eq}
 use mathlib.Core.Path.{_≡_, refl}
@@ -39,30 +39,31 @@ use types.SemTy.{Body}
 use Rattle.quorum.specs.Limits.{mostStations}
 use Rattle.records.specs.View.{arbiterOf}
 use Rattle.records.specs.declared.Arbiter.{Arbiter}
 use Rattle.machine.specs.Lent.{lending, lentOf}
-use Rattle.machine.specs.declared.Incoming.{Incoming}
 use Rattle.machine.specs.declared.Reply.{Reply}
-use Rattle.machine.specs.declared.lending.Settled.{Settled}
-use Rattle.machine.proofs.lending.settle.Symbol.{name as #settle}
-use Rattle.machine.proofs.tell.Key.{name as #tell}
+use Rattle.machine.specs.declared.Settled.{Settled}
+use Rattle.pafluzeno.specs.Arriving.{upwardOf}
+use Rattle.pafluzeno.specs.declared.Arrival.{Arrival}
+use Rattle.pafluzeno.proofs.settled.Symbol.{name as #settled}
+use Rattle.pafluzeno.proofs.pafluzeno_tell.Key.{name as #tell}
 use denote.Struct.Laws as LL
 use Rattle.records.proofs.Arbiter as T
 use Rattle.records.proofs.Arbiter.Laws as T′
-use Rattle.machine.proofs.Incoming as I
-use Rattle.machine.proofs.Incoming.Laws as I′
+use Rattle.pafluzeno.proofs.Arrival as I
+use Rattle.pafluzeno.proofs.Arrival.Laws as I′
 use Rattle.machine.proofs.Reply as R
 use Rattle.machine.proofs.Reply.Laws as R′
-use Rattle.machine.proofs.lending.Settled as S
-use Rattle.machine.proofs.lending.Settled.Laws as S′
-use Rattle.machine.proofs.lending.settle as settle
-use Rattle.machine.proofs.lending.settle.Symbol as settle-def
-use Rattle.machine.proofs.lending.settle.Met as settle-thm
-use Rattle.machine.proofs.tell as tell
-use Rattle.machine.proofs.tell.Statement as stated
-use Rattle.machine.proofs.tell.Code as code
+use Rattle.machine.proofs.Settled as S
+use Rattle.machine.proofs.Settled.Laws as S′
+use Rattle.pafluzeno.proofs.settled as settled
+use Rattle.pafluzeno.proofs.settled.Symbol as settled-def
+use Rattle.pafluzeno.proofs.settled.Met as settled-thm
+use Rattle.pafluzeno.proofs.pafluzeno_tell as tell
+use Rattle.pafluzeno.proofs.pafluzeno_tell.Statement as stated
+use Rattle.pafluzeno.proofs.pafluzeno_tell.Code as code
 
 abbrev Arg : Type 0
-Arg = RefT Arbiter × (Incoming × Unit {0})
+Arg = RefT Arbiter × (Arrival × Unit {0})
 
 abbrev stayed : Stays (tell.ended .signature .params) (tell.ended .kept)
 stayed = (stay-ref (0 ∷ []) tt (plain (λ _. T.the-row)), (stay-none (λ _. I.the-row) yes, tt))
@@ -70,7 +71,7 @@ stayed = (stay-ref (0 ∷ []) tt (plain (λ _. T.the-row)), (stay-none (λ _. I.
 abbrev a-val : Arbiter → Val
 a-val = LL.val T.the-type T′.the-laws
 
-abbrev i-val : Incoming → Val
+abbrev i-val : Arrival → Val
 i-val = LL.val I.the-type I′.the-laws
 
 abbrev r-val : Reply → Val
@@ -83,20 +84,20 @@ s-val = LL.val S.the-type S′.the-laws
 parts : (r : Settled) (v : Val) → Is S.the-row r (v ∷ []) → Is R.the-row (r .reply) (r-val (r .reply) ∷ []) × (Is T.the-row (r .arbiter) (a-val (r .arbiter) ∷ []) × Unit {0})
 parts r v is = LL.owed S.the-type S′.the-laws r (v ∷ []) is
 
--- what `settle` promises of the arbiter h, the message i and its answer r
-abbrev Promised : Arbiter → Incoming → Settled → Type 0
+-- what `settled` promises of the arbiter h, the message i and its answer r
+abbrev Promised : Arbiter → Arrival → Settled → Type 0
 Promised h i r =
-    (lentOf (r .reply) (r .arbiter) ≡ lending (i .stock) (i .station) (i .message) (arbiterOf mostStations h)) × (0 < r .reply .refusal → r .arbiter ≡ h)
+    (lentOf (r .reply) (r .arbiter) ≡ lending (i .stock) (i .station) (upwardOf (i .request) (i .units)) (arbiterOf mostStations h)) × (0 < r .reply .refusal → r .arbiter ≡ h)
 
 module _ {M : Type 1} (𝓤 : URA M) (H : Heap 𝓤) (A : Atoms 𝓤) (at-mem : Memory → SProp 𝓤) (run : Routine → Fun 𝓤) where
   abbrev Settle : Contract 𝓤
-  Settle = tripleOf 𝓤 H A settle.signature (settle.spec 𝓤 H A at-mem run)
+  Settle = tripleOf 𝓤 H A settled.signature (settled.spec 𝓤 H A at-mem run)
 
   -- of the callee's `ensured`, the clauses alone: it has no `&mut`, so what is said of last values is dropped
-  promised-of : (h : Arbiter) (i : Incoming) (r : Settled) → ent 𝓤 (ensured 𝓤 H A settle.ended (settle.clauses 𝓤 H A at-mem run) tt (h, (i, tt)) tt r) (fact 𝓤 (Promised h i r))
-  promised-of h i r = exE 𝓤 _ (λ ws. snd∗ 𝓤 (sem 𝓤 H A (lasts settle.ended tt (h, (i, tt)) ws)) (fact 𝓤 (Promised h i r)))
+  promised-of : (h : Arbiter) (i : Arrival) (r : Settled) → ent 𝓤 (ensured 𝓤 H A settled.ended (settled.clauses 𝓤 H A at-mem run) tt (h, (i, tt)) tt r) (fact 𝓤 (Promised h i r))
+  promised-of h i r = exE 𝓤 _ (λ ws. snd∗ 𝓤 (sem 𝓤 H A (lasts settled.ended tt (h, (i, tt)) ws)) (fact 𝓤 (Promised h i r)))
 
-module _ {M : Type 1} (𝓤 : URA M) (H : Heap 𝓤) (A : Atoms 𝓤) (W : Given 𝓤 H A) (at-mem : Memory → SProp 𝓤) (run : Routine → Fun 𝓤) (κ : Lft) (q : Share) (b o : ℕ) (γ : GName) (h : Arbiter) (i : Incoming) where
+module _ {M : Type 1} (𝓤 : URA M) (H : Heap 𝓤) (A : Atoms 𝓤) (W : Given 𝓤 H A) (at-mem : Memory → SProp 𝓤) (run : Routine → Fun 𝓤) (κ : Lft) (q : Share) (b o : ℕ) (γ : GName) (h : Arbiter) (i : Arrival) where
   abbrev x : Arg
   x = (record { ptr = (b, o); name = γ; now = h }, (i, tt))
 
@@ -121,7 +122,7 @@ module _ {M : Type 1} (𝓤 : URA M) (H : Heap 𝓤) (A : Atoms 𝓤) (W : Given
   goes-settle = qed W (‵ (T.the-row .own h (a-val h ∷ [])) ∷ ‵ (I.the-row .own i (i-val i ∷ [])) ∷ []) ∵
       nothing ! $ move ! (2 ∷ 0 ∷ []) $ join ! $ move ! (1 ∷ 0 ∷ []) $ join ! $ nothing ! $ join ! $ frame ! $ done !
 
-  module _ (C : Calls 𝓤 H) (Λ : Loops 𝓤 H) (fm : FmC 𝓤 H (W .laws) C) (known : Triple 𝓤 (C #settle) (Settle 𝓤 H A at-mem run)) where
+  module _ (C : Calls 𝓤 H) (Λ : Loops 𝓤 H) (fm : FmC 𝓤 H (W .laws) C) (known : Triple 𝓤 (C #settled) (Settle 𝓤 H A at-mem run)) where
     walk : ent 𝓤 (onEntry 𝓤 H A tell.signature (κ, tt) (q, tt) x at) (WpFn 𝓤 H C Λ code.function (vptr b o ∷ i-val i ∷ []) Post)
     walk =
         qed W ((‵ (flft κ q) ⊛ ‵ ftrue) ∷ ‵ (owns (MutRef (named 0) κ (T.the-row) ∷ I.the-row ∷ []) x at) ∷ []) ∵ split ! $ move ! (2 ∷ []) $ fsplit ! $ move ! (1 ∷ []) $ fsplit ! $
@@ -137,7 +138,7 @@ module _ {M : Type 1} (𝓤 : URA M) (H : Heap 𝓤) (A : Atoms 𝓤) (W : Given
         owned ! I.the-row (Is I.the-row) (LL.makes I.the-type I′.the-plain 𝓤 H A) i _ gi $ owned ! T.the-row (Is T.the-row) (LL.makes T.the-type T′.the-plain 𝓤 H A) h _ gh $
         use2 W (raw (Settle 𝓤 H A at-mem run .pre to-settle)) goes-settle $
         calls-at ! fm (Settle 𝓤 H A at-mem run) known to-settle (and-then ! (load ! (from ! (stop !)) (look ! 6 refl)) (and-then ! (load ! (from ! (stop !)) (look ! 10 refl)) (no-more !))) (λ v.
-        use1 W (later (some (λ (r : Settled). (‵ ftrue ⊛ ‵ (S.the-row .own r (v ∷ []))) ⊛ raw (ensured 𝓤 H A settle.ended (settle.clauses 𝓤 H A at-mem run) tt (h, (i, tt)) tt r)))) (id⊢ 𝓤 _) $ await ! tt $ pick ! (λ r.
+        use1 W (later (some (λ (r : Settled). (‵ ftrue ⊛ ‵ (S.the-row .own r (v ∷ []))) ⊛ raw (ensured 𝓤 H A settled.ended (settled.clauses 𝓤 H A at-mem run) tt (h, (i, tt)) tt r)))) (id⊢ 𝓤 _) $ await ! tt $ pick ! (λ r.
         split ! $ move ! (1 ∷ []) $ use1 W (raw (fact 𝓤 (Promised h i r))) (promised-of 𝓤 H A at-mem run h i r) $ heard ! (Promised h i r) (λ e. split ! $ drop ! $
         peeks ! S.the-row (Is S.the-row) (shows 𝓤 H A S.the-row) r (v ∷ []) (λ is.
         land ! (from ! (stop !)) (init ! 8 refl (LL.lawful S.the-type S′.the-laws 𝓤 H A W .typed r _ is .0)) $
@@ -152,7 +153,7 @@ module _ {M : Type 1} (𝓤 : URA M) (H : Heap 𝓤) (A : Atoms 𝓤) (W : Given
         keep ! (0 ∷ 1 ∷ 2 ∷ []) $ by ! (exits r gi (parts r v is .0) e)))))))))))))
 
 module _ {M : Type 1} (𝓤 : URA M) (H : Heap 𝓤) (A : Atoms 𝓤) (W : Given 𝓤 H A) (at-mem : Memory → SProp 𝓤) (run : Routine → Fun 𝓤) where
-  tell-walks : (C : Calls 𝓤 H) (Λ : Loops 𝓤 H) → FmC 𝓤 H (W .laws) C → Triple 𝓤 (C #settle) (Settle 𝓤 H A at-mem run)
+  tell-walks : (C : Calls 𝓤 H) (Λ : Loops 𝓤 H) → FmC 𝓤 H (W .laws) C → Triple 𝓤 (C #settled) (Settle 𝓤 H A at-mem run)
       → Walks 𝓤 H A tell.ended stayed (WpFn 𝓤 H C Λ code.function) (tell.clauses 𝓤 H A at-mem run)
   tell-walks C Λ fm known =
       walked 𝓤 H A tell.ended stayed (tell.clauses 𝓤 H A at-mem run) (WpFn 𝓤 H C Λ code.function) (λ κs. (ptr-vals, (LL.vals I.the-type I′.the-laws, tt)))
@@ -163,15 +164,15 @@ module _ {M : Type 1} (𝓤 : URA M) (H : Heap 𝓤) (A : Atoms 𝓤) (W : Given
   goes = (goes-ref 𝓤 H A W 1 0 tt (plain (λ _. T.the-row)), (goes-none 𝓤 H A W 1 (λ _. I.the-row) yes (λ κs x f. refl), tt))
 
 tell-meets : {M : Type 1} (𝓤 : URA M) (H : Heap 𝓤) (A : Atoms 𝓤) (W : Given 𝓤 H A) (at-mem : Memory → SProp 𝓤) (run : Routine → Fun 𝓤) (𝓣 : Tables 𝓤 H)
-    → Triple 𝓤 (𝓣 .C #settle) (Settle 𝓤 H A at-mem run) → Meets 𝓤 H A tell.signature (WpFn 𝓤 H (𝓣 .C) (𝓣 .Λ) code.function) (tell.spec 𝓤 H A at-mem run)
+    → Triple 𝓤 (𝓣 .C #settled) (Settle 𝓤 H A at-mem run) → Meets 𝓤 H A tell.signature (WpFn 𝓤 H (𝓣 .C) (𝓣 .Λ) code.function) (tell.spec 𝓤 H A at-mem run)
 tell-meets 𝓤 H A W at-mem run 𝓣 known =
     walk-meets 𝓤 H A tell.ended stayed W (goes 𝓤 H A W at-mem run) (tell.clauses 𝓤 H A at-mem run) (WpFn 𝓤 H (𝓣 .C) (𝓣 .Λ) code.function) (WpFn-mono 𝓤 H (W .laws) 𝓣 code.function)
     (tell-walks 𝓤 H A W at-mem run (𝓣 .C) (𝓣 .Λ) (fmOf 𝓤 H (W .laws) 𝓣) known)
 
-pub tell-spec : {M : Type 1} → stated.statement M
+pub pafluzeno-tell-spec : {M : Type 1} → stated.statement M
 unfolding code.routine tablesOf
-tell-spec 𝓤 H 𝓜 𝓖 𝓡 =
+pafluzeno-tell-spec 𝓤 H 𝓜 𝓖 𝓡 =
     entered 𝓤 H (tripleOf 𝓤 H (𝓖 .A) tell.signature (tell.spec 𝓤 H (𝓖 .A) (𝓜 .mem) (𝓡 .run)))
     (tables 𝓤 H 𝓜 𝓡 code.env .C) (tables 𝓤 H 𝓜 𝓡 code.env .Λ) #tell code.function (code.unfolded 𝓤 H 𝓜 𝓡)
     (tell-meets 𝓤 H (𝓖 .A) (givenOf 𝓤 H 𝓜 𝓖) (𝓜 .mem) (𝓡 .run) (tablesOf 𝓤 H 𝓜 (tables 𝓤 H 𝓜 𝓡 code.env))
-    (cited 𝓤 H (Settle 𝓤 H (𝓖 .A) (𝓜 .mem) (𝓡 .run)) 𝓜 𝓡 code.env #settle settle-def.routine code.calls-machine·lending·settle (settle-thm.met 𝓤 H 𝓜 𝓖 𝓡)))
+    (cited 𝓤 H (Settle 𝓤 H (𝓖 .A) (𝓜 .mem) (𝓡 .run)) 𝓜 𝓡 code.env #settled settled-def.routine code.calls-pafluzeno·settled (settled-thm.met 𝓤 H 𝓜 𝓖 𝓡)))

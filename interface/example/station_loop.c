@@ -1,0 +1,191 @@
+/* A station's loop, for five stations in one process. Each has its own arbiter record, which it lends to the library for each message that
+ * reaches it, and collects its quorum in ascending order. The radio is an array of lanes, first in first out, of which any that is not empty
+ * may deliver next; here a fixed sequence of random numbers chooses. Written against pafluzeno.h alone. */
+#include <stdio.h>
+#include <stdlib.h>
+
+#include "../pafluzeno.h"
+
+enum { STATIONS = 5, STOCK = 2, JOBS = 200, LANE_PLACES = 4 };
+
+enum kind { REQUEST, RELEASE, GRANT };
+
+struct message {
+    enum kind kind;
+    uint8_t units;
+};
+
+struct lane {
+    struct message places[LANE_PLACES];
+    int len;
+};
+
+enum phase { IDLE, COLLECTING, HOLDING };
+
+struct station {
+    struct pafluzeno_arbiter arbiter; /* what this station grants to others */
+    enum phase phase;                 /* what it does itself */
+    uint16_t quorum;
+    uint8_t units;
+    int member; /* whom it asks now */
+    int jobs;   /* how many batches it has finished */
+};
+
+static struct station stations[STATIONS];
+static struct lane radio[STATIONS][STATIONS]; /* from, to */
+static uint16_t table[PAFLUZENO_MOST_QUORUMS];
+static size_t quorums;
+static unsigned in_use, most_in_use, waited;
+
+static void stop(const char *why, unsigned refusal)
+{
+    fprintf(stderr, "station_loop: %s (refusal %u)\n", why, refusal);
+    exit(1);
+}
+
+/* A fixed sequence, the same on every machine. */
+static unsigned chance(unsigned below)
+{
+    static uint64_t seed = 2523;
+    seed = seed * 6364136223846793005u + 1442695040888963407u;
+    return (unsigned)(seed >> 33) % below;
+}
+
+static void say(int from, int to, enum kind kind, uint8_t units)
+{
+    struct lane *lane = &radio[from][to];
+    if (lane->len == LANE_PLACES)
+        stop("a lane is full", PAFLUZENO_NO_PLACE);
+    lane->places[lane->len++] = (struct message){kind, units};
+}
+
+/* The lowest member of the station's quorum from `from` on, or -1. */
+static int member_from(const struct station *s, int from)
+{
+    for (int j = from; j < STATIONS; j++)
+        if (s->quorum >> j & 1)
+            return j;
+    return -1;
+}
+
+static void begin(int me)
+{
+    struct station *s = &stations[me];
+    s->phase = COLLECTING;
+    s->quorum = table[chance((unsigned)quorums)];
+    s->units = (uint8_t)(1 + chance(STOCK));
+    s->member = member_from(s, 0);
+    say(me, s->member, REQUEST, s->units);
+}
+
+static void finish(int me)
+{
+    struct station *s = &stations[me];
+    in_use -= s->units;
+    s->phase = IDLE;
+    s->jobs++;
+    for (int j = member_from(s, 0); j >= 0; j = member_from(s, j + 1))
+        say(me, j, RELEASE, 0);
+}
+
+/* GRANT from the member asked: on to the next, or all have granted. Any other GRANT is dropped. */
+static void granted(int me, int from)
+{
+    struct station *s = &stations[me];
+    if (s->phase != COLLECTING || s->member != from)
+        return;
+    int next = member_from(s, from + 1);
+    if (next >= 0) {
+        s->member = next;
+        say(me, next, REQUEST, s->units);
+        return;
+    }
+    s->phase = HOLDING;
+    in_use += s->units;
+    if (in_use > most_in_use)
+        most_in_use = in_use;
+    if (in_use > STOCK)
+        stop("more units in use than there are", 0);
+}
+
+/* The arbiter's part: the record is lent for one message, and GRANT is sent to the stations of the answer. */
+static void arbitrate(int me, int from, struct message m)
+{
+    struct pafluzeno_arrival arrival = {
+        .stock = STOCK, .station = (size_t)from, .request = m.kind == REQUEST, .units = m.units};
+    struct pafluzeno_reply reply = pafluzeno_tell(&stations[me].arbiter, arrival);
+    if (reply.refusal != PAFLUZENO_NO_REFUSAL)
+        stop("the arbiter refuses", reply.refusal);
+    if (m.kind == REQUEST && !(reply.granted >> from & 1))
+        waited++;
+    for (int s = 0; s < STATIONS; s++)
+        if (reply.granted >> s & 1)
+            say(me, s, GRANT, 0);
+}
+
+static void receive(int me, int from)
+{
+    struct lane *lane = &radio[from][me];
+    struct message m = lane->places[0];
+    lane->len--;
+    for (int i = 0; i < lane->len; i++)
+        lane->places[i] = lane->places[i + 1];
+    if (m.kind == GRANT)
+        granted(me, from);
+    else
+        arbitrate(me, from, m);
+}
+
+/* One thing that can happen next, chosen by chance: a message is delivered, a station begins or finishes. Whether there was any. */
+static bool something_happens(void)
+{
+    unsigned possible = 0;
+    int kind = 0, a = 0, b = 0;
+    for (int i = 0; i < STATIONS; i++) {
+        for (int j = 0; j < STATIONS; j++)
+            if (radio[i][j].len > 0 && chance(++possible) == 0)
+                kind = 0, a = j, b = i;
+        if (stations[i].phase == IDLE && stations[i].jobs < JOBS && chance(++possible) == 0)
+            kind = 1, a = i;
+        if (stations[i].phase == HOLDING && chance(++possible) == 0)
+            kind = 2, a = i;
+    }
+    if (possible == 0)
+        return false;
+    if (kind == 0)
+        receive(a, b);
+    else if (kind == 1)
+        begin(a);
+    else
+        finish(a);
+    return true;
+}
+
+static void choose_table(void)
+{
+    static uint8_t scratch[PAFLUZENO_SCRATCH_BYTES];
+    struct pafluzeno_made made = pafluzeno_uniform(STATIONS, STOCK, table, PAFLUZENO_MOST_QUORUMS);
+    if (made.refusal != PAFLUZENO_NO_REFUSAL)
+        stop("no table", made.refusal);
+    quorums = made.quorums;
+    struct pafluzeno_checked checked = pafluzeno_check(STATIONS, STOCK, table, quorums, scratch, sizeof scratch);
+    if (checked.refusal != PAFLUZENO_NO_REFUSAL)
+        stop("the table is refused", checked.refusal);
+    printf("stations=%d units=%d quorums=%zu width=%zu even=%u\n", STATIONS, STOCK, quorums, checked.width, checked.even);
+}
+
+int main(void)
+{
+    choose_table();
+    unsigned long steps = 0;
+    while (something_happens())
+        steps++;
+    int jobs = 0;
+    for (int i = 0; i < STATIONS; i++) {
+        if (stations[i].phase != IDLE || stations[i].arbiter.len != 0)
+            stop("a station is left waiting", 0);
+        jobs += stations[i].jobs;
+    }
+    printf("batches=%d waited=%u most in use=%u in use=%u steps=%lu\n", jobs, waited, most_in_use, in_use, steps);
+    return 0;
+}

@@ -1,0 +1,130 @@
+//! The station's calls of `libpafluzeno.a`, safe to call: the check of a quorum table, ready-made tables, and the arbiter of a station's own
+//! record. What each answers is proved; this crate only passes slices and references on.
+#![no_std]
+
+mod raw;
+mod refusal;
+
+pub use raw::{Arbiter, Entry};
+pub use refusal::Refusal;
+
+pub const MOST_STATIONS: usize = raw::MOST_STATIONS;
+pub const MOST_UNITS: usize = 200;
+pub const MOST_QUORUMS: usize = 64;
+/// The check wants so many bytes of scratch.
+pub const SCRATCH_BYTES: usize = 4096;
+
+/// A table that may be used.
+#[derive(Clone, Copy, PartialEq, Eq, Debug)]
+pub struct Accepted {
+    /// The size of the smallest family of quorums without a common station, 0 if there is none.
+    pub width: usize,
+    /// Whether all stations belong to equally many quorums.
+    pub even: bool,
+}
+
+/// A table that may not.
+#[derive(Clone, Copy, PartialEq, Eq, Debug)]
+pub struct Refused {
+    pub refusal: Refusal,
+    /// The width, on refusals 6 and 7; otherwise 0.
+    pub width: usize,
+    size: usize,
+    family: [u8; MOST_STATIONS],
+}
+
+impl Refused {
+    /// On refusal 6 the numbers of quorums that have no common station; otherwise empty.
+    pub fn family(&self) -> &[u8] {
+        &self.family[..self.size]
+    }
+}
+
+/// The check of a table. Bit i of a quorum, worth 2^i, is one exactly when station i is a member. A scratch of 4,096 bytes or more has zeros in
+/// its first 4,096 bytes afterwards and is unchanged beyond; a shorter one is unchanged.
+pub fn check(
+    stations: usize,
+    stock: usize,
+    quorums: &[u16],
+    scratch: &mut [u8],
+) -> Result<Accepted, Refused> {
+    // SAFETY: pointer and length are those of live slices, and the scratch is borrowed by this call alone.
+    let checked = unsafe {
+        raw::pafluzeno_check(
+            stations,
+            stock,
+            quorums.as_ptr(),
+            quorums.len(),
+            scratch.as_mut_ptr(),
+            scratch.len(),
+        )
+    };
+    match Refusal::from_number(checked.refusal) {
+        None => Ok(Accepted {
+            width: checked.width,
+            even: checked.even == 1,
+        }),
+        Some(refusal) => Err(Refused {
+            refusal,
+            width: checked.width,
+            size: checked.size,
+            family: checked.family,
+        }),
+    }
+}
+
+type Maker = unsafe extern "C" fn(usize, usize, *mut u16, usize) -> raw::Made;
+
+fn made(maker: Maker, first: usize, second: usize, out: &mut [u16]) -> Result<usize, Refusal> {
+    // SAFETY: pointer and length are those of a live slice, borrowed by this call alone.
+    let made = unsafe { maker(first, second, out.as_mut_ptr(), out.len()) };
+    Refusal::from_number(made.refusal).map_or(Ok(made.quorums), Err)
+}
+
+/// One quorum, that station alone. Answers the number of quorums written, as the other makers do; a refusal leaves `out` as it was.
+pub fn singleton(stations: usize, station: usize, out: &mut [u16]) -> Result<usize, Refusal> {
+    made(raw::pafluzeno_singleton, stations, station, out)
+}
+
+/// All sets of floor(k × n / (k + 1)) + 1 of n stations, by ascending number.
+pub fn uniform(stations: usize, stock: usize, out: &mut [u16]) -> Result<usize, Refusal> {
+    made(raw::pafluzeno_uniform, stations, stock, out)
+}
+
+/// side^(stock + 1) stations; for each the quorum of those that agree with it in at least one coordinate.
+pub fn cube(side: usize, stock: usize, out: &mut [u16]) -> Result<usize, Refusal> {
+    made(raw::pafluzeno_cube, side, stock, out)
+}
+
+fn tell(arbiter: &mut Arbiter, message: raw::Arrival) -> Result<u16, Refusal> {
+    // SAFETY: the reference is live and exclusive, and `Arbiter` has the layout of the header's struct.
+    let reply = unsafe { raw::pafluzeno_tell(arbiter, message) };
+    Refusal::from_number(reply.refusal).map_or(Ok(reply.granted), Err)
+}
+
+/// A REQUEST for so many units reaches the arbiter: the set of stations to which GRANT is to be sent. A refusal leaves the record as it was.
+pub fn request(
+    arbiter: &mut Arbiter,
+    stock: usize,
+    station: usize,
+    units: usize,
+) -> Result<u16, Refusal> {
+    let message = raw::Arrival {
+        stock,
+        station,
+        request: true,
+        units,
+    };
+    tell(arbiter, message)
+}
+
+/// A RELEASE reaches it.
+pub fn release(arbiter: &mut Arbiter, stock: usize, station: usize) -> Result<u16, Refusal> {
+    let message = raw::Arrival {
+        stock,
+        station,
+        request: false,
+        units: 0,
+    };
+    tell(arbiter, message)
+}
