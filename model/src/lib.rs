@@ -1,0 +1,14 @@
+//! A plain model of document 01, written from the document alone, for comparison with the verified code. It is meant
+//! to be obviously right and nothing else: growable lists, sets written out, and brute force where that is small.
+//!
+//! A refusal is document 01's number, and 0 where nothing is refused.
+
+pub mod arbiter;
+pub mod examples;
+pub mod machine;
+pub mod page;
+pub mod random;
+pub mod ready;
+pub mod rng;
+pub mod table;
+pub mod text;

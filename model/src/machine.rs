@@ -1,0 +1,173 @@
+//! The plain machine's calls. "A call tests 19, 8, then the rest of its own, upward."
+
+pub mod record;
+
+use crate::arbiter::Sent;
+use crate::table::{check, members};
+use record::{Message, Phase, Record, MOST_DOWN, MOST_UP};
+
+/// "Each call returns refusal, units entered (else 0), units left (else 0) and the record."
+#[derive(Clone, PartialEq, Eq, Debug)]
+pub struct Answer {
+    pub refusal: usize,
+    pub entered: usize,
+    pub left: usize,
+    pub record: Record,
+}
+
+/// Units entered and units left.
+type Moved = (usize, usize);
+
+/// A call works on a copy, which is thrown away where it is refused: "A refused call enters and leaves 0 and returns the
+/// record unchanged."
+fn answer(before: &Record, call: impl FnOnce(&mut Record) -> Result<Moved, usize>) -> Answer {
+    let mut record = before.clone();
+    let done = if before.in_range() {
+        call(&mut record)
+    } else {
+        Err(19)
+    };
+    match done {
+        Ok((entered, left)) => Answer {
+            refusal: 0,
+            entered,
+            left,
+            record,
+        },
+        Err(refusal) => Answer {
+            refusal,
+            entered: 0,
+            left: 0,
+            record: before.clone(),
+        },
+    }
+}
+
+/// 8: a station or arbiter that there is not.
+fn exists(r: &Record, number: usize) -> Result<(), usize> {
+    if number < r.n {
+        Ok(())
+    } else {
+        Err(8)
+    }
+}
+
+fn send_up(r: &mut Record, s: usize, j: usize, message: Message) -> Result<(), usize> {
+    r.up[s][j].push_back(message);
+    if r.up[s][j].len() > MOST_UP {
+        return Err(14);
+    }
+    Ok(())
+}
+
+fn send_down(r: &mut Record, s: usize, j: usize) -> Result<(), usize> {
+    r.down[s][j].push_back(Message::Grant);
+    if r.down[s][j].len() > MOST_DOWN {
+        return Err(14);
+    }
+    Ok(())
+}
+
+/// "Request(s, quorum, h): s collects; REQUEST(h) goes up to the lowest member."
+pub fn request(before: &Record, s: usize, quorum: usize, h: usize) -> Answer {
+    answer(before, |r| {
+        exists(r, s)?;
+        if quorum >= r.table.len() {
+            return Err(9);
+        }
+        if h < 1 || h > r.stock {
+            return Err(10);
+        }
+        if r.stations[s] != Phase::Idle {
+            return Err(11);
+        }
+        let lowest = members(r.table[quorum])[0];
+        r.stations[s] = Phase::Collecting {
+            quorum,
+            units: h,
+            member: lowest,
+        };
+        send_up(r, s, lowest, Message::Request(h))?;
+        Ok((0, 0))
+    })
+}
+
+/// Up(s, j) "takes the oldest message"; the arbiter does its part; "and GRANT goes down the lane from j to that station".
+pub fn up(before: &Record, s: usize, j: usize) -> Answer {
+    answer(before, |r| {
+        exists(r, s)?;
+        exists(r, j)?;
+        let sent = match r.up[s][j].pop_front() {
+            None => return Err(13),
+            Some(Message::Request(h)) => Sent::Request(h),
+            Some(Message::Release) => Sent::Release,
+            Some(Message::Grant) => unreachable!("the record is in range"),
+        };
+        let (n, k) = (r.n, r.stock);
+        for station in r.arbiters[j].take(n, k, s, sent)? {
+            send_down(r, station, j)?;
+        }
+        Ok((0, 0))
+    })
+}
+
+/// Down(s, j) "takes the oldest message. If s is collecting from j: with a higher member left, REQUEST(h) goes up to the
+/// lowest such member; otherwise s holds and h units are entered. In every other case GRANT is dropped."
+pub fn down(before: &Record, s: usize, j: usize) -> Answer {
+    answer(before, |r| {
+        exists(r, s)?;
+        exists(r, j)?;
+        if r.down[s][j].pop_front().is_none() {
+            return Err(13);
+        }
+        match r.stations[s] {
+            Phase::Collecting {
+                quorum,
+                units,
+                member,
+            } if member == j => {
+                let higher = members(r.table[quorum]).into_iter().find(|&m| m > j);
+                match higher {
+                    Some(member) => {
+                        r.stations[s] = Phase::Collecting {
+                            quorum,
+                            units,
+                            member,
+                        };
+                        send_up(r, s, member, Message::Request(units))?;
+                        Ok((0, 0))
+                    }
+                    None => {
+                        r.stations[s] = Phase::Holding { quorum, units };
+                        Ok((units, 0))
+                    }
+                }
+            }
+            _ => Ok((0, 0)),
+        }
+    })
+}
+
+/// "Release(s): RELEASE goes up to all members, s is idle, its h units are left."
+pub fn release(before: &Record, s: usize) -> Answer {
+    answer(before, |r| {
+        exists(r, s)?;
+        let Phase::Holding { quorum, units } = r.stations[s] else {
+            return Err(12);
+        };
+        for j in members(r.table[quorum]) {
+            send_up(r, s, j, Message::Release)?;
+        }
+        r.stations[s] = Phase::Idle;
+        Ok((0, units))
+    })
+}
+
+/// "Opening gives a fresh record, or on refusal the empty record (n = 0)." It runs the check on that much scratch.
+pub fn open(n: usize, k: usize, quorums: &[u16], scratch: usize) -> (usize, Record) {
+    let refusal = check(n, k, quorums, scratch).refusal;
+    if refusal != 0 {
+        return (refusal, Record::empty());
+    }
+    (0, Record::fresh(n, k, quorums))
+}

@@ -1,0 +1,28 @@
+//! What the programs `cases` and `runs` are recorded to print is what the model prints.
+
+use model::examples::{cases, runs};
+use std::fs;
+use std::path::Path;
+
+fn compare(program: &str, by_model: &str) {
+    let place = format!("../crates/{program}/stdout");
+    let path = Path::new(env!("CARGO_MANIFEST_DIR")).join(&place);
+    let recorded = fs::read_to_string(path).unwrap_or_else(|e| panic!("{place}: {e}"));
+    for (i, (theirs, ours)) in recorded.lines().zip(by_model.lines()).enumerate() {
+        assert_eq!(theirs, ours, "{place}, line {}", i + 1);
+    }
+    assert!(
+        recorded == by_model,
+        "{place} is longer or shorter than the model's output"
+    );
+}
+
+#[test]
+fn cases_as_recorded() {
+    compare("cases", &cases::output());
+}
+
+#[test]
+fn runs_as_recorded() {
+    compare("runs", &runs::output());
+}

@@ -1,0 +1,143 @@
+//! The makers of the static library against the model's: all small arguments, and some huge ones.
+
+use model::ready::{cube, singleton, uniform, write, Made};
+use model::table::{check, SCRATCH};
+use std::collections::BTreeMap;
+
+/// What stands in a buffer before the call.
+const BEFORE: u16 = 43690;
+
+type Maker = fn(usize, usize, &mut [u16]) -> Result<usize, pafluzeno::Refusal>;
+
+/// The buffer's lengths: none, one short of the table, just enough, and more.
+fn lengths(made: &Made) -> Vec<usize> {
+    let size = made.as_ref().map_or(3, Vec::len);
+    vec![0, size - 1, size, size + 1, 64, 70]
+}
+
+/// The refusal, the number written and the whole buffer afterwards. Answers the refusals, by how often they were given.
+fn compare(
+    name: &str,
+    maker: Maker,
+    first: usize,
+    second: usize,
+    made: &Made,
+    seen: &mut BTreeMap<usize, usize>,
+) {
+    for len in lengths(made) {
+        let mut theirs = vec![BEFORE; len];
+        let answer = match maker(first, second, &mut theirs) {
+            Ok(count) => (0, count),
+            Err(refusal) => (refusal.number().into(), 0),
+        };
+        let mut ours = vec![BEFORE; len];
+        let expected = write(made.clone(), &mut ours);
+        assert_eq!(answer, expected, "{name} of {first} and {second} in {len}");
+        assert_eq!(theirs, ours, "{name} of {first} and {second} in {len}");
+        *seen.entry(expected.0).or_insert(0) += 1;
+    }
+}
+
+fn assert_seen(seen: &BTreeMap<usize, usize>, refusals: &[usize]) {
+    let keys: Vec<usize> = seen.keys().copied().collect();
+    assert_eq!(keys, refusals, "{seen:?}");
+}
+
+/// 0 to 15, and some that a byte, two or four cannot hold.
+fn firsts() -> Vec<usize> {
+    let mut all: Vec<usize> = (0..=15).collect();
+    all.extend([
+        255,
+        256,
+        257,
+        258,
+        65537,
+        1 << 32,
+        (1 << 32) + 3,
+        1 << 63,
+        usize::MAX - 1,
+        usize::MAX,
+    ]);
+    all
+}
+
+/// The same with 0 to 210.
+fn seconds() -> Vec<usize> {
+    let mut all: Vec<usize> = (0..=210).collect();
+    all.extend([
+        255,
+        256,
+        257,
+        457,
+        65537,
+        1 << 32,
+        (1 << 32) + 1,
+        1 << 63,
+        usize::MAX - 1,
+        usize::MAX,
+    ]);
+    all
+}
+
+/// "Every table written passes 6 and 7 for its k".
+fn assert_passes(n: usize, k: usize, quorums: &[u16]) {
+    assert_eq!(
+        check(n, k, quorums, SCRATCH).refusal,
+        0,
+        "n = {n}, k = {k}, {quorums:?}"
+    );
+}
+
+#[test]
+fn singletons() {
+    let mut seen = BTreeMap::new();
+    for n in firsts() {
+        for station in seconds() {
+            let made = singleton(n, station);
+            compare(
+                "singleton",
+                pafluzeno::singleton,
+                n,
+                station,
+                &made,
+                &mut seen,
+            );
+            if let Ok(quorums) = made {
+                for k in 1..=200 {
+                    assert_passes(n, k, &quorums);
+                }
+            }
+        }
+    }
+    assert_seen(&seen, &[0, 1, 8, 16]);
+}
+
+#[test]
+fn uniforms() {
+    let mut seen = BTreeMap::new();
+    for n in firsts() {
+        for k in seconds() {
+            let made = uniform(n, k);
+            compare("uniform", pafluzeno::uniform, n, k, &made, &mut seen);
+            if let Ok(quorums) = made {
+                assert_passes(n, k, &quorums);
+            }
+        }
+    }
+    assert_seen(&seen, &[0, 1, 2, 16, 18]);
+}
+
+#[test]
+fn cubes() {
+    let mut seen = BTreeMap::new();
+    for a in firsts() {
+        for k in seconds() {
+            let made = cube(a, k);
+            compare("cube", pafluzeno::cube, a, k, &made, &mut seen);
+            if let Ok(quorums) = made {
+                assert_passes(quorums.len(), k, &quorums);
+            }
+        }
+    }
+    assert_seen(&seen, &[0, 2, 16, 17]);
+}
