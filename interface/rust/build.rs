@@ -5,12 +5,16 @@ use std::path::PathBuf;
 fn main() {
     let folder = match env::var_os("PAFLUZENO_LIB") {
         Some(folder) => PathBuf::from(folder),
-        None => PathBuf::from(env::var_os("CARGO_MANIFEST_DIR").unwrap())
-            .join("../../target/staticlib"),
+        None => {
+            PathBuf::from(env::var_os("CARGO_MANIFEST_DIR").unwrap()).join("../../target/staticlib")
+        }
     };
     let archive = folder.join("libpafluzeno.a");
     if !archive.exists() {
-        panic!("{} is missing: run `rt staticlib pafluzeno`", archive.display());
+        panic!(
+            "{} is missing: run `rt staticlib pafluzeno`",
+            archive.display()
+        );
     }
     println!("cargo:rustc-link-search=native={}", folder.display());
     println!("cargo:rustc-link-lib=static=pafluzeno");
