@@ -1,5 +1,27 @@
 //! The station's calls of `libpafluzeno.a`, safe to call: the check of a quorum table, ready-made tables, and the arbiter of a station's own
 //! record. What each answers is proved; this crate only passes slices and references on.
+//!
+//! ```
+//! use pafluzeno::{check, release, request, uniform, Arbiter, Refusal, MOST_QUORUMS, SCRATCH_BYTES};
+//!
+//! // five stations, two positions: a table, and whether it may be used
+//! let mut table = [0; MOST_QUORUMS];
+//! let quorums = uniform(5, 2, &mut table)?;
+//! let mut scratch = [0; SCRATCH_BYTES];
+//! assert!(check(5, 2, &table[..quorums], &mut scratch).is_ok());
+//!
+//! // the same quorums do not do for four positions: these five have no station in common
+//! let refused = check(5, 4, &table[..quorums], &mut scratch).unwrap_err();
+//! assert_eq!(refused.refusal, Refusal::NoCommonMember);
+//! assert_eq!(refused.family(), [0, 1, 2, 3, 4]);
+//!
+//! // a station's own arbiter: station 3 is granted both positions, station 1 waits until they are back
+//! let mut arbiter = Arbiter::default();
+//! assert_eq!(request(&mut arbiter, 2, 3, 2)?, 1 << 3);
+//! assert_eq!(request(&mut arbiter, 2, 1, 1)?, 0);
+//! assert_eq!(release(&mut arbiter, 2, 3)?, 1 << 1);
+//! # Ok::<(), Refusal>(())
+//! ```
 #![no_std]
 
 mod raw;

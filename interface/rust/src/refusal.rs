@@ -1,3 +1,6 @@
+use core::error::Error;
+use core::fmt;
+
 /// The refusals, by name and number.
 #[derive(Clone, Copy, PartialEq, Eq, Debug)]
 #[repr(u8)]
@@ -77,3 +80,11 @@ impl Refusal {
         }
     }
 }
+
+impl fmt::Display for Refusal {
+    fn fmt(&self, f: &mut fmt::Formatter) -> fmt::Result {
+        write!(f, "refusal {} ({self:?})", self.number())
+    }
+}
+
+impl Error for Refusal {}
