@@ -1,0 +1,43 @@
+//! What the verified code costs beside plain Rust, as ratios from one run on one machine. Run it by `bench/run`.
+
+mod checks;
+mod clock;
+mod journals;
+mod pace;
+mod process;
+mod report;
+mod straightforward;
+mod tables;
+mod texts;
+
+use process::Folder;
+
+fn compare() {
+    println!(
+        "Verified code against plain Rust; a ratio is the verified code's time / the other's."
+    );
+    println!("Each time is the shortest of so many runs, the two taken in turns:");
+    println!(
+        "{} of a check ({} of the model's), {} of pace, {} of a journal.",
+        checks::ROUNDS,
+        checks::ROUNDS / checks::MODEL_EVERY,
+        pace::ROUNDS,
+        journals::ROUNDS
+    );
+    let folder = Folder::new();
+    checks::compare();
+    pace::compare(&folder);
+    journals::compare(&folder);
+}
+
+fn main() {
+    match std::env::args().nth(1).as_deref() {
+        None => compare(),
+        Some(pace::MODE) => print!("{}", pace::by_model()),
+        Some(journals::MODE) => journals::by_model(),
+        Some(_) => {
+            eprintln!("usage: speed");
+            std::process::exit(2);
+        }
+    }
+}
