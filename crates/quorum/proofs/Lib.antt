@@ -10,6 +10,7 @@ pub mod Minimality
 pub mod Refusals
 pub mod Accepts
 pub mod Needing
+pub mod Leaving
 pub mod Lowering
 pub mod Evenness
 pub mod Cleaning

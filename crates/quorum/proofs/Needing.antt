@@ -1,8 +1,10 @@
--- One byte of scratch for each set, filled in ascending order: each says what its set needs, from the bytes of the smaller sets.
+-- One byte of scratch for each set, filled in ascending order: each says what its set needs, from the bytes of the smaller sets and the quorums
+-- that lack the set's highest station.
 -- Assumes nothing.
+use mathlib.Core.Bool.{Bool, true, false}
 use mathlib.Core.List.{List, [], _∷_}
 use mathlib.Core.Logic.{_⊎_, inl, inr, ⊎-elim, by-cases}
-use mathlib.Core.Path.{_≡_, refl, ap, _∙_}
+use mathlib.Core.Path.{_≡_, refl, sym, ap, _∙_}
 use Prim.Native.Nat.{ℕ, zero, suc, _+_, _≤_, _<_, _^_, min, zero-le}
 use native.Mathlib.Decide.{ℕ-discrete, decLe}
 use native.Mathlib.Numerals.{add-one}
@@ -11,52 +13,83 @@ use lib.Arith.{lt-of-le-ne}
 use lib.Bits.{bitAnd, and-le-l}
 use lib.ListN.{length, getD, drop, set, drop-of-length-le}
 use lib.Pow.{ones-lt}
-use lib.Seq.{drop-cons, getD-set-same, getD-set-other, lt-length-set}
+use lib.Seq.{drop-cons, getD-set-same, getD-set-other}
 use borrow.Author.Count.{below-more}
 use borrow.Author.Tests.{eq-eqb, ne-eqb}
+use Rattle.lists.proofs.Tests.{clash}
+use Rattle.stations.specs.Member.{member}
 use Rattle.stations.specs.Sets.{everyone}
 use Rattle.stations.proofs.Counts.{count-le}
+use Rattle.stations.proofs.Members.{member-zero, member-and, and-swap}
 use Rattle.quorum.specs.Family.{quorum, commonWithin, Numbers}
 use Rattle.quorum.specs.Limits.{mostStations}
-use Rattle.quorum.specs.Need.{Emptying, Need, noNeed, leastByte, oneMore, sizeOf}
+use Rattle.quorum.specs.Need.{Emptying, Need, noNeed, without, leastByte, oneMore, sizeOf}
 use Rattle.quorum.specs.Width.{width}
 use Rattle.quorum.proofs.Thinned.{with-quorum, thinned}
 use Rattle.quorum.proofs.Widths.{Width, width-is, emptied-list}
 
 -- ---- the least byte
 
--- r is the least of b and the bytes of the sets that a quorum leaves of s
-record LeastByte (bytes : List ℕ) (s b : ℕ) (table : List ℕ) (r : ℕ) : Type 0 where
+-- r is the least of b and the bytes of the sets that a quorum without station i leaves of s
+record LeastByte (bytes : List ℕ) (s b i : ℕ) (table : List ℕ) (r : ℕ) : Type 0 where
   below : r ≤ b
-  low : (p : ℕ) → p < length table → r ≤ getD bytes (bitAnd s (quorum table p)) 0
-  reached : (r ≡ b) ⊎ ((p : ℕ) × (p < length table) × (r ≡ getD bytes (bitAnd s (quorum table p)) 0))
+  low : (p : ℕ) → p < length table → member (quorum table p) i ≡ false → r ≤ getD bytes (bitAnd s (quorum table p)) 0
+  reached : (r ≡ b) ⊎ ((p : ℕ) × (p < length table) × (member (quorum table p) i ≡ false) × (r ≡ getD bytes (bitAnd s (quorum table p)) 0))
 
-least-byte : (bytes : List ℕ) (s b : ℕ) (table : List ℕ) → LeastByte bytes s b table (leastByte bytes s b table)
-least-byte bytes s b [] = record { below = omega arith; low = λ p h. absurd (omega arith); reached = inl refl }
-least-byte bytes s b (q ∷ table) = go (least-byte bytes s (min b (getD bytes (bitAnd s q) 0)) table)
+least-byte : (bytes : List ℕ) (s b i : ℕ) (table : List ℕ) → LeastByte bytes s b i table (leastByte bytes s b (without i table))
+least-byte bytes s b i [] = record { below = omega arith; low = λ p h. absurd (omega arith); reached = inl refl }
+least-byte bytes s b i (q ∷ table) =
+    go (member q i) refl (least-byte bytes s b i table) (least-byte bytes s (min b (getD bytes (bitAnd s q) 0)) i table)
   where
     x : ℕ
     x = getD bytes (bitAnd s q) 0
 
-    r : ℕ
-    r = leastByte bytes s (min b (getD bytes (bitAnd s q) 0)) table
+    Later : ℕ → Type 0
+    Later r = (p : ℕ) × (p < length table) × (member (quorum table p) i ≡ false) × (r ≡ getD bytes (bitAnd s (quorum table p)) 0)
 
-    low′ : LeastByte bytes s (min b x) table r → (p : ℕ) → p < suc (length table) → r ≤ getD bytes (bitAnd s (quorum (q ∷ table) p)) 0
-    low′ l zero h = omega (arith, l .below)
-    low′ l (suc p) h = l .low p (omega arith)
+    Found : ℕ → Type 0
+    Found r = (p : ℕ) × (p < suc (length table)) × (member (quorum (q ∷ table) p) i ≡ false) × (r ≡ getD bytes (bitAnd s (quorum (q ∷ table) p)) 0)
 
-    first : LeastByte bytes s (min b x) table r → r ≡ min b x
-        → (r ≡ b) ⊎ ((p : ℕ) × (p < suc (length table)) × (r ≡ getD bytes (bitAnd s (quorum (q ∷ table) p)) 0))
-    first l e =
-        by-cases (decLe b x) (λ (h : b ≤ x). inl (omega arith)) (λ (h : ¬ (b ≤ x)). inr (0, omega arith, omega arith))
+    later : (r : ℕ) → Later r → Found r
+    later r found = (suc (found .0), omega (arith, found .1), found .2, found .3)
 
-    go : LeastByte bytes s (min b x) table r → LeastByte bytes s b (q ∷ table) r
-    go l =
+    low′ : (r m : ℕ) → LeastByte bytes s m i table r → (member q i ≡ false → r ≤ x)
+        → (p : ℕ) → p < suc (length table) → member (quorum (q ∷ table) p) i ≡ false → r ≤ getD bytes (bitAnd s (quorum (q ∷ table) p)) 0
+    low′ r m l here zero h lacks = here lacks
+    low′ r m l here (suc p) h lacks = l .low p (omega arith) lacks
+
+    first : (r : ℕ) → r ≡ min b x → member q i ≡ false → (r ≡ b) ⊎ Found r
+    first r e lacks =
+        by-cases (decLe b x) (λ (h : b ≤ x). inl (omega arith)) (λ (h : ¬ (b ≤ x)). inr (0, omega arith, lacks, omega arith))
+
+    skips : (r : ℕ) → member q i ≡ true → LeastByte bytes s b i table r → LeastByte bytes s b i (q ∷ table) r
+    skips r has l =
+        record {
+          below = l .below;
+          low = low′ r b l (λ lacks. absurd (clash has lacks));
+          reached = ⊎-elim (λ (e : r ≡ b). inl e) (λ (found : Later r). inr (later r found)) (l .reached);
+        }
+
+    takes : (r : ℕ) → member q i ≡ false → LeastByte bytes s (min b x) i table r → LeastByte bytes s b i (q ∷ table) r
+    takes r lacks l =
         record {
           below = omega (arith, l .below);
-          low = low′ l;
-          reached = ⊎-elim (first l) (λ (found : (p : ℕ) × (p < length table) × (r ≡ getD bytes (bitAnd s (quorum table p)) 0)). inr (suc (found .0), omega (arith, found .1), found .2)) (l .reached);
+          low = low′ r (min b x) l (λ _. omega (arith, l .below));
+          reached = ⊎-elim (λ (e : r ≡ min b x). first r e lacks) (λ (found : Later r). inr (later r found)) (l .reached);
         }
+
+    go : (t : Bool) → member q i ≡ t → LeastByte bytes s b i table (leastByte bytes s b (without i table))
+        → LeastByte bytes s (min b x) i table (leastByte bytes s (min b x) (without i table))
+        → LeastByte bytes s b i (q ∷ table) (leastByte bytes s b (without i (q ∷ table)))
+    go true e l l′ = rw e (skips (leastByte bytes s b (without i table)) e l)
+    go false e l l′ = rw e (takes (leastByte bytes s (min b x) (without i table)) e l′)
+
+-- 0 is the least of all
+pub least-zero : (bytes : List ℕ) (s : ℕ) (table : List ℕ) → leastByte bytes s 0 table ≡ 0
+least-zero bytes s [] = refl
+least-zero bytes s (q ∷ table) =
+    let zero-least : min 0 (getD bytes (bitAnd s q) 0) ≡ 0 = omega arith in
+    ap (λ (b : ℕ). leastByte bytes s b table) zero-least ∙ least-zero bytes s table
 
 -- one quorum further, and at the end
 pub least-next : (bytes : List ℕ) (s b : ℕ) (table : List ℕ) (p : ℕ) → p < length table
@@ -72,47 +105,80 @@ module _ (n : ℕ) (table : List ℕ) (few : n ≤ mostStations) where
   need-few {s} h e low =
       let thin = thinned table n s h e in omega (arith, low (thin .emptying), thin .few, count-le s n)
 
-  -- the bytes below s say what each smaller set needs, and the byte of s itself says nothing yet
-  pub record Ready (bytes : List ℕ) (s : ℕ) : Type 0 where
-    pub some : s ≡ 0 → ⊥
+  -- station i belongs to s, and the bytes below s say what each smaller set needs
+  pub record Ready (bytes : List ℕ) (i s : ℕ) : Type 0 where
+    pub has : member s i ≡ true
     pub fits : s < 2 ^ n
-    pub unknown : getD bytes s 0 ≡ noNeed
     pub smaller : (c : ℕ) → c < s → Need table c (getD bytes c 0)
 
-  module _ (bytes : List ℕ) (s : ℕ) (ready : Ready bytes s) (r : ℕ) (l : LeastByte bytes s noNeed table r) where
-    below-s : (p : ℕ) → (bitAnd s (quorum table p) ≡ s → ⊥) → bitAnd s (quorum table p) < s
-    below-s p d = lt-of-le-ne (and-le-l s (quorum table p)) d
+  -- of quorums that empty a set with station i one lacks i; the others empty what it leaves
+  record Lacking (i s : ℕ) (f : List ℕ) : Type 0 where
+    number : ℕ
+    lt : number < length table
+    lacks : member (quorum table number) i ≡ false
+    rest : Emptying table (bitAnd s (quorum table number))
+    size : length f ≡ suc (length (rest .list))
 
-    -- quorums that empty s are more than the least byte: the first that takes a station away leaves a smaller set
-    more : (f : List ℕ) → Numbers (length table) f → commonWithin table s f ≡ 0 → r < length f
-    unfolding commonWithin
-    more f Numbers.none e = absurd (ready .some e)
-    more g (Numbers.and {p} {f} lt rest) e =
-        by-cases (ℕ-discrete (bitAnd s (quorum table p)) s)
-        (λ (same : bitAnd s (quorum table p) ≡ s). omega (arith, more f rest (rw same at e)))
-        (λ (d : bitAnd s (quorum table p) ≡ s → ⊥).
-        go (ready .smaller (bitAnd s (quorum table p)) (below-s p d)) (record { list = f; numbers = rest; empties = e }) refl)
+  lacking : (i s : ℕ) (f : List ℕ) → member s i ≡ true → Numbers (length table) f → commonWithin table s f ≡ 0 → Lacking i s f
+  unfolding commonWithin
+  lacking i s f has Numbers.none e = absurd (clash has (ap (λ (c : ℕ). member c i) e ∙ member-zero i))
+  lacking i s g has (Numbers.and {p} {f} lt numbers) e =
+      go (member (quorum table p) i) refl (λ (m : member (quorum table p) i ≡ true). lacking i (bitAnd s (quorum table p)) f (member-and s (quorum table p) i ∙ rw (has, m)) numbers e)
+    where
+      q : ℕ
+      q = quorum table p
+
+      behind : Lacking i (bitAnd s q) f → Lacking i s (p ∷ f)
+      behind l =
+          let q′ = quorum table (l .number) in
+          record {
+            number = l .number;
+            lt = l .lt;
+            lacks = l .lacks;
+            rest =
+                record {
+                  list = p ∷ l .rest .list;
+                  numbers = Numbers.and lt (l .rest .numbers);
+                  empties = ap (λ (c : ℕ). commonWithin table c (l .rest .list)) (and-swap s q′ q) ∙ l .rest .empties;
+                };
+            size = ap suc (l .size);
+          }
+
+      go : (t : Bool) → member q i ≡ t → (member q i ≡ true → Lacking i (bitAnd s q) f) → Lacking i s (p ∷ f)
+      go true m later = behind (later m)
+      go false m later = record { number = p; lt = lt; lacks = m; rest = record { list = f; numbers = numbers; empties = e }; size = refl }
+
+  module _ (bytes : List ℕ) (i s : ℕ) (ready : Ready bytes i s) (r : ℕ) (l : LeastByte bytes s noNeed i table r) where
+    below-s : (p : ℕ) → member (quorum table p) i ≡ false → bitAnd s (quorum table p) < s
+    below-s p lacks = lt-of-le-ne (and-le-l s (quorum table p)) differs
       where
-        go : Need table (bitAnd s (quorum table p)) (getD bytes (bitAnd s (quorum table p)) 0) → (t : Emptying table (bitAnd s (quorum table p))) → t .list ≡ f → r < suc (length f)
-        go (Need.least e′ size low) t same = omega (arith, low t, l .low p lt, ap length same)
-        go (Need.never v never) t same = absurd (never t)
+        differs : bitAnd s (quorum table p) ≡ s → ⊥
+        differs same = clash (ready .has) (ap (λ (c : ℕ). member c i) (sym same) ∙ member-and s (quorum table p) i ∙ rw (ready .has, lacks))
+
+    -- quorums that empty s are more than the least byte
+    more : (g : Emptying table s) → r < length (g .list)
+    more g = go (lacking i s (g .list) (ready .has) (g .numbers) (g .empties))
+      where
+        go : Lacking i s (g .list) → r < length (g .list)
+        go k = at-least (ready .smaller (bitAnd s (quorum table (k .number))) (below-s (k .number) (k .lacks)))
+          where
+            at-least : Need table (bitAnd s (quorum table (k .number))) (getD bytes (bitAnd s (quorum table (k .number))) 0) → r < length (g .list)
+            at-least (Need.least e size low) = omega (arith, low (k .rest), l .low (k .number) (k .lt) (k .lacks), k .size)
+            at-least (Need.never v never) = absurd (never (k .rest))
 
     when-none : r ≡ noNeed → Emptying table s → ⊥
     when-none e g =
         let thin = thinned table n s (ready .fits) g in
-        omega (arith, more (thin .emptying .list) (thin .emptying .numbers) (thin .emptying .empties), thin .few, count-le s n)
+        omega (arith, more (thin .emptying), thin .few, count-le s n)
 
-    when-reached : (r ≡ noNeed → ⊥) → (p : ℕ) → p < length table → r ≡ getD bytes (bitAnd s (quorum table p)) 0 → Need table s (oneMore r)
+    when-reached : (r ≡ noNeed → ⊥) → (p : ℕ) → p < length table → member (quorum table p) i ≡ false
+        → r ≡ getD bytes (bitAnd s (quorum table p)) 0 → Need table s (oneMore r)
     unfolding with-quorum
-    when-reached some p lt e = go (ready .smaller (bitAnd s (quorum table p)) (below-s p differs))
+    when-reached some p lt lacks e = go (ready .smaller (bitAnd s (quorum table p)) (below-s p lacks))
       where
-        differs : bitAnd s (quorum table p) ≡ s → ⊥
-        differs same = some (e ∙ ap (λ (c : ℕ). getD bytes c 0) same ∙ ready .unknown)
-
         go : Need table (bitAnd s (quorum table p)) (getD bytes (bitAnd s (quorum table p)) 0) → Need table s (oneMore r)
         go (Need.least e′ size low) =
-            rw (ne-eqb r noNeed some)
-            (Need.least (with-quorum table s p lt e′) (omega arith) (λ g. omega (arith, more (g .list) (g .numbers) (g .empties))))
+            rw (ne-eqb r noNeed some) (Need.least (with-quorum table s p lt e′) (omega arith) (λ g. omega (arith, more g)))
         go (Need.never v never) = absurd (some (e ∙ v))
 
     stepped : Need table s (oneMore r)
@@ -121,17 +187,18 @@ module _ (n : ℕ) (table : List ℕ) (few : n ≤ mostStations) where
         (λ (e : r ≡ noNeed). rw (eq-eqb r noNeed e) (Need.never refl (when-none e)))
         (λ (some : r ≡ noNeed → ⊥).
         ⊎-elim (λ (e : r ≡ noNeed). absurd (some e))
-        (λ (found : (p : ℕ) × (p < length table) × (r ≡ getD bytes (bitAnd s (quorum table p)) 0)). when-reached some (found .0) (found .1) (found .2))
+        (λ (found : (p : ℕ) × (p < length table) × (member (quorum table p) i ≡ false) × (r ≡ getD bytes (bitAnd s (quorum table p)) 0)).
+        when-reached some (found .0) (found .1) (found .2) (found .3))
         (l .reached))
 
   -- the empty set needs no quorum
-  pub need-zero : Need table 0 0
+  need-zero : Need table 0 0
   unfolding commonWithin
   need-zero = Need.least (record { list = []; numbers = Numbers.none; empties = refl }) refl (λ g. zero-le)
 
-  -- a set that is not empty needs one quorum more than the least that a quorum leaves
-  pub need-step : (bytes : List ℕ) (s : ℕ) → Ready bytes s → Need table s (oneMore (leastByte bytes s noNeed table))
-  need-step bytes s ready = stepped bytes s ready (leastByte bytes s noNeed table) (least-byte bytes s noNeed table)
+  -- a set with station i needs one quorum more than the least that a quorum without i leaves
+  pub need-step : (bytes : List ℕ) (i s : ℕ) → Ready bytes i s → Need table s (oneMore (leastByte bytes s noNeed (without i table)))
+  need-step bytes i s ready = stepped bytes i s ready (leastByte bytes s noNeed (without i table)) (least-byte bytes s noNeed i table)
 
   -- ---- the bytes, one set further
 
@@ -139,19 +206,13 @@ module _ (n : ℕ) (table : List ℕ) (few : n ≤ mostStations) where
   filled-zero bytes h zero less = rw (getD-set-same bytes 0 0 0 h) need-zero
   filled-zero bytes h (suc c) less = absurd (omega arith)
 
-  pub filled-next : (bytes : List ℕ) (s v : ℕ) → 0 < s → s < 2 ^ n → s < length bytes
-      → v ≡ oneMore (leastByte (set bytes s noNeed) s noNeed table)
+  pub filled-next : (bytes : List ℕ) (i s v : ℕ) → member s i ≡ true → s < 2 ^ n → s < length bytes
+      → v ≡ oneMore (leastByte bytes s noNeed (without i table))
       → ((c : ℕ) → c < s → Need table c (getD bytes c 0))
-      → (c : ℕ) → c < s + 1 → Need table c (getD (set (set bytes s noNeed) s v) c 0)
-  filled-next bytes s v some fits inside is below c less =
-      below-more (λ (d : ℕ). Need table d (getD (set (set bytes s noNeed) s v) d 0)) s (λ d h. rw (getD-set-other (set bytes s noNeed) s d v 0 (λ e. omega arith)) (unchanged d h))
-      (rw (getD-set-same (set bytes s noNeed) s v 0 (lt-length-set bytes s noNeed inside), is) (need-step (set bytes s noNeed) s ready)) c less
-    where
-      unchanged : (d : ℕ) → d < s → Need table d (getD (set bytes s noNeed) d 0)
-      unchanged d h = rw (getD-set-other bytes s d noNeed 0 (λ e. omega arith)) (below d h)
-
-      ready : Ready (set bytes s noNeed) s
-      ready = record { some = λ e. omega arith; fits = fits; unknown = getD-set-same bytes s noNeed 0 inside; smaller = unchanged }
+      → (c : ℕ) → c < s + 1 → Need table c (getD (set bytes s v) c 0)
+  filled-next bytes i s v has fits inside is below =
+      below-more (λ (d : ℕ). Need table d (getD (set bytes s v) d 0)) s (λ d h. rw (getD-set-other bytes s d v 0 (λ e. omega arith)) (below d h))
+      (rw (getD-set-same bytes s v 0 inside, is) (need-step bytes i s (record { has = has; fits = fits; smaller = below })))
 
   -- ---- what all stations need is the width
 

@@ -6,6 +6,7 @@ use Prim.Native.Nat.{ℕ, suc, _+_, _^_, _≤_, _<_, min}
 use lib.Bits.{bitAnd}
 use lib.Dec.{eqb, ltb}
 use lib.ListN.{length, getD}
+use Rattle.stations.specs.Member.{member}
 use Rattle.quorum.specs.Family.{commonWithin, Numbers}
 
 -- the byte for a set that no quorums empty
@@ -26,6 +27,11 @@ pub data Need (table : List ℕ) (s v : ℕ) : Type 0 where
 -- the bytes say so of every set of stations below n
 abbrev pub Needs : ℕ → List ℕ → List ℕ → Type 0
 Needs n table bytes = (s : ℕ) → s < 2 ^ n → Need table s (getD bytes s 0)
+
+-- the quorums that station i does not belong to
+abbrev pub without : ℕ → List ℕ → List ℕ
+without i [] = []
+without i (q ∷ table) = cond (member q i) (without i table) (q ∷ without i table)
 
 -- the least byte among the sets that one more quorum leaves of s, or b
 abbrev pub leastByte : List ℕ → ℕ → ℕ → List ℕ → ℕ

@@ -18,6 +18,7 @@ pub mod limits;
 mod need;
 mod nested;
 mod scratch;
+mod without;
 
 // Document 01's limits: stations, units of the stock, quorums of a table.
 pub const MOST_STATIONS: usize = 12;

@@ -1,10 +1,12 @@
 // How many quorums it takes to leave no station of a set in common: one byte of scratch for each set.
 ghost use mathlib.Core.Path.{_≡_};
-ghost use Prim.Native.Nat.{_≤_, _<_};
+ghost use Prim.Native.Nat.{_+_, _≤_, _<_};
 ghost use lib.ListN.{length, drop};
-ghost use Rattle.quorum.specs.Limits.{mostStations};
+ghost use Rattle.quorum.specs.Limits.{mostStations, mostQuorums};
 ghost use Rattle.quorum.specs.Scratch.{scratchBytes};
 ghost use Rattle.quorum.specs.Need.{Needs, noNeed, leastByte, oneMore};
+use crate::MOST_QUORUMS;
+use crate::without;
 
 // The byte for a set that no quorums empty.
 pub(crate) const NO_NEED: u8 = 255;
@@ -20,6 +22,9 @@ fn through_one(set: u16, quorums: &[u16], bytes: &[u8]) -> u8
         let left = stations::common(set, quorums[p]) as usize;
         let byte = bytes[left];
         if byte < least {
+            if byte == 0 {
+                return 1;
+            }
             least = byte;
         }
         p += 1;
@@ -30,21 +35,36 @@ fn through_one(set: u16, quorums: &[u16], bytes: &[u8]) -> u8
     least + 1
 }
 
-// Fills the byte of every set of stations below n, smaller sets first: what a quorum leaves of a set
-// is the set itself, whose byte says nothing yet, or a smaller number, whose byte is known.
+// Fills the byte of every set whose highest station is i. Quorums that leave no station of it in common cannot all have i; one that has not
+// may as well come first, and what it leaves is a set of lower stations, whose byte is known.
+fn fill_highest(i: usize, quorums: &[u16], scratch: &mut [u8])
+    requires { ⌜ (i < mostStations) × (length (now quorums) ≤ mostQuorums) × (scratchBytes ≤ length (now scratch)) ⌝ }
+    requires { ⌜ Needs i (now quorums) (now scratch) ⌝ }
+    ensures needs { λ _. ⌜ Needs (i + 1) (now (quorums .entry)) (now (scratch .exit)) ⌝ }
+    ensures beyond { λ _. ⌜ drop scratchBytes (now (scratch .exit)) ≡ drop scratchBytes (now (scratch .entry)) ⌝ }
+{
+    let mut found = [0u16; MOST_QUORUMS];
+    let len = without::without(i, quorums, &mut found);
+    let first = stations::only(i);
+    let end = first + first;
+    let mut set = first;
+    while set < end {
+        let byte = through_one(set, &found[..len], scratch);
+        scratch[set as usize] = byte;
+        set += 1;
+    }
+}
+
+// Fills the byte of every set of stations below n.
 pub(crate) fn fill(n: usize, quorums: &[u16], scratch: &mut [u8])
-    requires { ⌜ (n ≤ mostStations) × (scratchBytes ≤ length (now scratch)) ⌝ }
+    requires { ⌜ (n ≤ mostStations) × (length (now quorums) ≤ mostQuorums) × (scratchBytes ≤ length (now scratch)) ⌝ }
     ensures needs { λ _. ⌜ Needs n (now (quorums .entry)) (now (scratch .exit)) ⌝ }
     ensures beyond { λ _. ⌜ drop scratchBytes (now (scratch .exit)) ≡ drop scratchBytes (now (scratch .entry)) ⌝ }
 {
-    let top = stations::everyone(n);
     scratch[0] = 0;
-    let mut set: u16 = 1;
-    while set <= top {
-        let at = set as usize;
-        scratch[at] = NO_NEED;
-        let byte = through_one(set, quorums, scratch);
-        scratch[at] = byte;
-        set += 1;
+    let mut i: usize = 0;
+    while i < n {
+        fill_highest(i, quorums, scratch);
+        i += 1;
     }
 }

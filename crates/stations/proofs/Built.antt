@@ -22,6 +22,12 @@ pub member-top : (n q : ℕ) → q < 2 ^ n → member (2 ^ n + q) n ≡ true
 unfolding member
 member-top n q h = let one : (2 ^ n + q) / 2 ^ n ≡ 1 = ap (λ (x : ℕ). (x + q) / 2 ^ n) (sym (one-mul (2 ^ n))) ∙ high 1 n h in rw one
 
+-- the highest station of a set
+pub member-highest : (n s : ℕ) → 2 ^ n ≤ s → s < 2 ^ n + 2 ^ n → member s n ≡ true
+member-highest n s h less =
+    let parts : 2 ^ n + (s - 2 ^ n) ≡ s = omega arith in
+    ap (λ (x : ℕ). member x n) (sym parts) ∙ member-top n (s - 2 ^ n) (omega arith)
+
 pub member-under : (n q i : ℕ) → i < n → member (2 ^ n + q) i ≡ member q i
 unfolding member
 member-under n q i h =

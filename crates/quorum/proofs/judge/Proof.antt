@@ -13,7 +13,8 @@ use Rattle.quorum.proofs.judge.Tie as tie
 fill-requires : tie.Need-fill-requires
 fill-requires c κs =
     let start = c .before .before .before in
-    (limits-kept (start .args .n) (start .args .k) (start .args .quorums .now) (start .pre .0) .stations .1, start .pre .1)
+    let limits = limits-kept (start .args .n) (start .args .k) (start .args .quorums .now) (start .pre .0) in
+    (limits .stations .1, limits .quorums .1, start .pre .1)
 
 width-of-requires : tie.Need-width-of-requires
 width-of-requires c κs =

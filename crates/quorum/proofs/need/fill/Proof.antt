@@ -1,95 +1,61 @@
--- `quorum::need::fill` meets its contract. The loop's invariant: the byte of every smaller set says what that set needs, and nothing beyond the 4,096 bytes has changed.
+-- `quorum::need::fill` meets its contract. The loop's invariant: the byte of every set of stations below i says what that set needs, and nothing beyond the 4,096 bytes has changed.
 -- Assumes nothing.
 use mathlib.Core.Path.{_≡_, refl, _∙_}
-use Prim.Native.Nat.{ℕ, _+_, _≤_, _<_, _-_}
+use Prim.Native.Nat.{_≤_, _-_}
 use native.Mathlib.Omega.{arith}
-use lib.ListN.{length, drop, getD, set, length-set}
-use lib.Pow.{suc-ones}
+use lib.ListN.{length, drop, length-set}
 use lib.Seq.{drop-set-lt}
 use borrow.Author.Needs.{needs}
-use Rattle.stations.specs.Sets.{everyone}
-use Rattle.stations.proofs.Members.{everyone-le, everyone-min}
-use Rattle.quorum.specs.Need.{Need, noNeed}
+use Rattle.quorum.specs.Need.{Needs}
 use Rattle.quorum.specs.Scratch.{scratchBytes}
-use Rattle.quorum.proofs.Needing.{filled-zero, filled-next}
+use Rattle.quorum.proofs.Needing.{filled-zero}
 use Rattle.quorum.proofs.need.fill.Statement.{statement}
 use Rattle.quorum.proofs.need.fill.Tie as tie
 
 abbrev Inv-loop : tie.InvT-loop
-Inv-loop n quorums scratch₀ top set₀ scratch set =
-    (1 ≤ set) × (set ≤ top + 1) × (top ≡ everyone n) × (top < scratchBytes) × (scratchBytes ≤ length scratch)
-    × (length scratch ≡ length scratch₀)
-    × (drop scratchBytes scratch ≡ drop scratchBytes scratch₀)
-    × ((s : ℕ) → s < set → Need quorums s (getD scratch s 0))
+Inv-loop n quorums scratch₀ i₀ scratch i =
+    (i ≤ n) × (scratchBytes ≤ length scratch) × (length scratch ≡ length scratch₀) × (drop scratchBytes scratch ≡ drop scratchBytes scratch₀)
+    × Needs i quorums scratch
 
 abbrev μ-loop : tie.MeasureT-loop
-μ-loop n quorums scratch₀ top set₀ scratch set = top + 1 - set
-
-everyone-requires : tie.Need-everyone-requires Inv-loop μ-loop
-everyone-requires c κs = search needs
+μ-loop n quorums scratch₀ i₀ scratch i = n - i
 
 slice-write-scratch : tie.Need-slice-write-scratch Inv-loop μ-loop
 slice-write-scratch c = search needs
 
 loop-holds : tie.Need-loop-holds Inv-loop μ-loop
 loop-holds c =
-    let start = c .before .before .before in
-    let same = c .everyone .ensures ∙ everyone-min (start .args .n) (omega arith) in (
-      search needs,
-      omega arith,
-      same,
-      omega (arith, everyone-le {n = start .args .n} {m = 12} (omega arith)),
-      simp length-set (search needs),
-      refl,
-      refl,
-      filled-zero (start .args .n) (start .args .quorums .now) (omega arith) (start .args .scratch .now) (omega arith),
-    )
+    let st = c .before .before .args in
+    (omega arith, simp length-set (search needs), refl, refl, filled-zero (st .n) (st .quorums .now) (omega arith) (st .scratch .now) (omega arith))
 
-cast-at : tie.Need-cast-at Inv-loop μ-loop
-cast-at c = search needs
+fill-highest-requires : tie.Need-fill-highest-requires Inv-loop μ-loop
+fill-highest-requires c κs =
+    let at = c .before .before .loop in
+    let st = c .before .before .before .before .before in
+    ((omega arith, st .pre .1, at .inv .1), at .inv .4)
 
-slice-write-scratch-2 : tie.Need-slice-write-scratch-2 Inv-loop μ-loop
-slice-write-scratch-2 c = search needs
-
-through-one-requires : tie.Need-through-one-requires Inv-loop μ-loop
-through-one-requires c κs = simp length-set (search needs)
-
-slice-write-scratch-3 : tie.Need-slice-write-scratch-3 Inv-loop μ-loop
-slice-write-scratch-3 c = simp length-set (search needs)
-
-add-set : tie.Need-add-set Inv-loop μ-loop
-add-set c = search needs
+add-i : tie.Need-add-i Inv-loop μ-loop
+add-i c = search needs
 
 loop-less : tie.Need-loop-less Inv-loop μ-loop
 loop-less c = search needs
 
 loop-again : tie.Need-loop-again Inv-loop μ-loop
 loop-again c =
-    let start = c .before .before .before .before .before .before .before in
-    let at = c .before .before .before .loop in
-    let beyond = drop-set-lt scratchBytes (set (at .scratch) (at .set) noNeed) (at .set) (c .through-one .result) (omega arith)
-    ∙ drop-set-lt scratchBytes (at .scratch) (at .set) noNeed (omega arith) in (
-      omega arith,
-      omega arith,
-      at .inv .2,
-      at .inv .3,
-      simp length-set (at .inv .4),
-      simp length-set (at .inv .5 ∙ simp length-set),
-      beyond ∙ at .inv .6,
-      filled-next (start .args .n) (start .args .quorums .now) (omega arith) (at .scratch) (at .set) (c .through-one .result)
-          (omega arith) (omega (arith, suc-ones (start .args .n))) (omega arith) (c .through-one .ensures) (at .inv .7),
-    )
+    let at = c .before .before .before .before .before .loop in
+    let filled = c .before .before .fill-highest in
+    let kept = filled .kept .1 .1 .0 in
+    (omega arith, omega (arith, at .inv .1, kept), kept ∙ at .inv .2, filled .ensures .1 ∙ at .inv .3, filled .ensures .0)
 
 same-length : tie.Need-same-length Inv-loop μ-loop
-same-length c = c .before .loop .inv .5 ∙ simp length-set
+same-length c = c .before .loop .inv .2 ∙ simp length-set
 
 returns : tie.Need-returns Inv-loop μ-loop
 returns c =
-    let start = c .before .before .before .before .before in
-    let at = c .before .loop in (
-      (λ s h. at .inv .7 s (omega (arith, suc-ones (start .args .n)))),
-      at .inv .6 ∙ drop-set-lt scratchBytes (start .args .scratch .now) 0 0 (omega arith),
-    )
+    let at = c .before .loop in
+    let st = c .before .before .before .before .args in
+    let all : at .i ≡ st .n = omega arith in
+    (rw all at (at .inv .4), at .inv .3 ∙ drop-set-lt scratchBytes (st .scratch .now) 0 0 (omega arith))
 
 pub fill-spec : {M : Type 1} → statement M
 fill-spec =
@@ -97,14 +63,10 @@ fill-spec =
     (tie.spec
     Inv-loop
     μ-loop
-    everyone-requires
     slice-write-scratch
     loop-holds
-    cast-at
-    slice-write-scratch-2
-    through-one-requires
-    slice-write-scratch-3
-    add-set
+    fill-highest-requires
+    add-i
     loop-less
     loop-again
     same-length

@@ -8,8 +8,8 @@ use lib.Bits.{bitAnd, and-le-l}
 use lib.ListN.{length, drop, getD}
 use borrow.Author.Needs.{needs}
 use borrow.Author.Tests.{eq-eqb, ne-eqb}
-use Rattle.quorum.specs.Need.{noNeed, leastByte}
-use Rattle.quorum.proofs.Needing.{least-next, least-end}
+use Rattle.quorum.specs.Need.{noNeed, leastByte, oneMore}
+use Rattle.quorum.proofs.Needing.{least-next, least-end, least-zero}
 use Rattle.quorum.proofs.need.through_one.Statement.{statement}
 use Rattle.quorum.proofs.need.through_one.Tie as tie
 
@@ -41,6 +41,16 @@ shared-slice-read-byte c =
     let at = c .before .before .before .before .loop in
     omega (arith, and-le-l (start .set) (getD (start .quorums .now) (at .p) 0))
 
+returns : tie.Need-returns Inv-loop μ-loop
+returns c =
+    let start = c .before .before .before .before .before .before .before .before .before .args in
+    let at = c .before .before .before .before .before .before .loop in
+    let bytes = start .bytes .now in
+    let table = start .quorums .now in
+    let byte : getD bytes (bitAnd (start .set) (getD table (at .p) 0)) 0 ≡ 0 = ap (λ (x : ℕ). getD bytes x 0) (sym (c .before .before .before .common .ensures)) ∙ c .if2 .taken in
+    let none : min (at .least) (getD bytes (bitAnd (start .set) (getD table (at .p) 0)) 0) ≡ 0 = omega arith in
+    sym (ap oneMore (sym (at .inv .2) ∙ least-next bytes (start .set) (at .least) table (at .p) (omega arith) ∙ ap (λ (b : ℕ). leastByte bytes (start .set) b (drop (at .p + 1) table)) none ∙ least-zero bytes (start .set) (drop (at .p + 1) table)))
+
 add-p : tie.Need-add-p Inv-loop μ-loop
 add-p c = search needs
 
@@ -59,22 +69,22 @@ loop-again c =
     ⊎-elim (λ w. omega arith) (λ w. omega arith) (c .if1 .came) in
     (search needs, omega arith, ap (λ (b : ℕ). leastByte bytes (start .set) b (drop (at .p + 1) table)) next ∙ sym (least-next bytes (start .set) (at .least) table (at .p) (omega arith)) ∙ at .inv .2)
 
-returns : tie.Need-returns Inv-loop μ-loop
-returns c =
-    let start = c .before .before .before .before .before .args in
-    let at = c .before .before .loop in
-    let all = sym (at .inv .2) ∙ least-end (start .bytes .now) (start .set) (at .least) (start .quorums .now) (at .p) (omega arith) in
-    rw (all, eq-eqb (at .least) noNeed (c .if2 .taken))
-
-add-result : tie.Need-add-result Inv-loop μ-loop
-add-result c = search needs
-
 returns-2 : tie.Need-returns-2 Inv-loop μ-loop
 returns-2 c =
     let start = c .before .before .before .before .before .args in
     let at = c .before .before .loop in
     let all = sym (at .inv .2) ∙ least-end (start .bytes .now) (start .set) (at .least) (start .quorums .now) (at .p) (omega arith) in
-    rw (all, ne-eqb (at .least) noNeed (c .if2 .left))
+    rw (all, eq-eqb (at .least) noNeed (c .if3 .taken))
+
+add-result : tie.Need-add-result Inv-loop μ-loop
+add-result c = search needs
+
+returns-3 : tie.Need-returns-3 Inv-loop μ-loop
+returns-3 c =
+    let start = c .before .before .before .before .before .args in
+    let at = c .before .before .loop in
+    let all = sym (at .inv .2) ∙ least-end (start .bytes .now) (start .set) (at .least) (start .quorums .now) (at .p) (omega arith) in
+    rw (all, ne-eqb (at .least) noNeed (c .if3 .left))
 
 pub through-one-spec : {M : Type 1} → statement M
 through-one-spec =
@@ -88,9 +98,10 @@ through-one-spec =
     common-requires
     cast-left
     shared-slice-read-byte
+    returns
     add-p
     loop-less
     loop-again
-    returns
+    returns-2
     add-result
-    returns-2)
+    returns-3)

@@ -1,0 +1,59 @@
+-- The quorums without a station, from a place of the table on: the next one is left out, or it stands first, and at the end there are none.
+-- Assumes nothing.
+use mathlib.Core.Bool.{true, false}
+use mathlib.Core.List.{List, [], _∷_, _++_, append-nil}
+use mathlib.Core.Path.{_≡_, sym, ap, _∙_}
+use Prim.Native.Nat.{ℕ, _+_, _≤_, _<_}
+use native.Mathlib.Numerals.{add-one}
+use native.Mathlib.Omega.{arith}
+use lib.ListN.{length, take, drop, set, length-set, drop-of-length-le}
+use lib.Seq.{append-snoc, drop-cons}
+use Rattle.lists.specs.Cut.{cut}
+use Rattle.lists.proofs.Cuts.{cut-push, cut-take}
+use Rattle.stations.specs.Member.{member}
+use Rattle.quorum.specs.Family.{quorum}
+use Rattle.quorum.specs.Need.{without}
+
+module _ (i : ℕ) (table : List ℕ) (room : ℕ) where
+  leaves : (p : ℕ) → p < length table → member (quorum table p) i ≡ true → without i (drop p table) ≡ without i (drop (p + 1) table)
+  leaves p h has = rw (add-one p, drop-cons table p 0 h, has)
+
+  keeps : (p : ℕ) → p < length table → member (quorum table p) i ≡ false → without i (drop p table) ≡ quorum table p ∷ without i (drop (p + 1) table)
+  keeps p h lacks = rw (add-one p, drop-cons table p 0 h, lacks)
+
+  ends : (p : ℕ) → length table ≤ p → without i (drop p table) ≡ []
+  ends p h = rw (drop-of-length-le table h)
+
+  -- what is found before place p, and what will be found from there on
+  pub record Leaving (found : List ℕ) (len p : ℕ) : Type 0 where
+    pub within : p ≤ length table
+    pub few : len ≤ p
+    pub places : length found ≡ room
+    pub list : cut 0 len found ++ without i (drop p table) ≡ without i table
+
+  module _ (found : List ℕ) (len p : ℕ) (l : Leaving found len p) (enough : length table ≤ room) where
+    pub leaving-skips : p < length table → member (quorum table p) i ≡ true → Leaving found len (p + 1)
+    leaving-skips h has =
+        record {
+          within = omega arith;
+          few = omega (arith, l .few);
+          places = l .places;
+          list = ap (λ (rest : List ℕ). cut 0 len found ++ rest) (sym (leaves p h has)) ∙ l .list;
+        }
+
+    pub leaving-takes : p < length table → member (quorum table p) i ≡ false → Leaving (set found len (quorum table p)) (len + 1) (p + 1)
+    leaving-takes h lacks =
+        record {
+          within = omega arith;
+          few = omega (arith, l .few);
+          places = length-set found len (quorum table p) ∙ l .places;
+          list =
+              ap (λ (part : List ℕ). part ++ without i (drop (p + 1) table)) (cut-push 0 len found (quorum table p) (omega (arith, l .few, l .places)))
+              ∙ append-snoc (cut 0 len found) (quorum table p) (without i (drop (p + 1) table))
+              ∙ ap (λ (rest : List ℕ). cut 0 len found ++ rest) (sym (keeps p h lacks))
+              ∙ l .list;
+        }
+
+    pub leaving-all : length table ≤ p → take len found ≡ without i table
+    leaving-all end =
+        sym (cut-take 0 len found (omega (arith, l .within, l .few, l .places))) ∙ sym (append-nil (cut 0 len found)) ∙ ap (λ (rest : List ℕ). cut 0 len found ++ rest) (sym (ends p end)) ∙ l .list
