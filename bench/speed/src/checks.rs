@@ -144,9 +144,12 @@ fn print_aims(worst: &[Timed], all: &[Timed]) {
         &is,
         nanoseconds < MOST_NANOSECONDS,
     );
-    for (what, cases) in [("64 quorums", worst), ("all tables", all)] {
+    let differ = |timed: &&Timed| tables::all_differ(&timed.case.quorums);
+    let different: Vec<&Timed> = all.iter().filter(differ).collect();
+    let every: Vec<&Timed> = all.iter().collect();
+    for (what, cases) in [("different quorums", different), ("all tables", every)] {
         let most = cases
-            .iter()
+            .into_iter()
             .max_by(|a, b| a.ratio().total_cmp(&b.ratio()))
             .expect("there are cases");
         let is = format!("{:.2} ({})", most.ratio(), most.label);

@@ -26,6 +26,14 @@ fn sets(n: usize, size: u32) -> Vec<u16> {
         .collect()
 }
 
+/// The same in another order.
+fn mixed(rng: &mut Rng, mut list: Vec<u16>) -> Vec<u16> {
+    for i in 1..list.len() {
+        list.swap(i, rng.between(0, i));
+    }
+    list
+}
+
 /// 64 quorums that lack three stations each, and all stations are lacked equally often: with each three all that a turn of
 /// the circle of stations makes of them. Three at equal distances are back after four steps, others after twelve.
 fn turns() -> Vec<u16> {
@@ -37,8 +45,8 @@ fn turns() -> Vec<u16> {
         .collect()
 }
 
-/// Twelve stations and 64 quorums. The time hardly depends on the kind; these are the slowest found, and the others for
-/// contrast. The verified code is slowest where the first quorums lack station 0: then each set waits for the one before.
+/// Twelve stations and 64 quorums: large ones, where many of them are needed to leave nothing in common, small ones, quorums among
+/// the first stations only, quorums that repeat, and quorums that share a station.
 pub fn worst() -> Vec<Case> {
     let mut rng = Rng::new(64);
     let in_turn: Vec<u16> = (0..64).map(|i| 4095 - (1 << (i % 12))).collect();
@@ -53,6 +61,12 @@ pub fn worst() -> Vec<Case> {
             .collect()
     };
     let (six, eight) = (random_of(6), random_of(8));
+    let among_ten = mixed(&mut rng, sets(10, 7));
+    let shared: Vec<u16> = mixed(&mut rng, sets(11, 6))
+        .iter()
+        .map(|set| 2 * set + 1)
+        .collect();
+    let among_seven: Vec<u16> = (0..64).map(|_| random::of_size(&mut rng, 7, 6)).collect();
     let wide = random::of_width(&mut rng, 12, 64, 8);
     vec![
         case("64 of the 66 sets of 10", 12, 1, &of_ten[..64]),
@@ -63,7 +77,14 @@ pub fn worst() -> Vec<Case> {
         case("64 sets in 8 groups", 12, 7, &wide),
         case("64 random sets of 8", 12, 1, &eight),
         case("64 random sets of 6", 12, 1, &six),
+        case("64 sets of 7 of the first 10", 12, 1, &among_ten[..64]),
+        case("sets of 6 of the first 7, repeated", 12, 1, &among_seven),
+        case("64 sets of 7, all with station 0", 12, 1, &shared[..64]),
     ]
+}
+
+pub fn all_differ(quorums: &[u16]) -> bool {
+    (1..quorums.len()).all(|i| !quorums[..i].contains(&quorums[i]))
 }
 
 /// The lines of the plane with seven points.
