@@ -1,9 +1,9 @@
 -- The quorums without a station, from a place of the table on: the next one is left out, or it stands first, and at the end there are none.
 -- Assumes nothing.
-use mathlib.Core.Bool.{true, false}
+use mathlib.Core.Bool.{Bool, true, false}
 use mathlib.Core.List.{List, [], _∷_, _++_, append-nil}
-use mathlib.Core.Path.{_≡_, sym, ap, _∙_}
-use Prim.Native.Nat.{ℕ, _+_, _≤_, _<_}
+use mathlib.Core.Path.{_≡_, refl, sym, ap, _∙_}
+use Prim.Native.Nat.{ℕ, zero, suc, _+_, _≤_, _<_}
 use native.Mathlib.Numerals.{add-one}
 use native.Mathlib.Omega.{arith}
 use lib.ListN.{length, take, drop, set, length-set, drop-of-length-le}
@@ -13,6 +13,28 @@ use Rattle.lists.proofs.Cuts.{cut-push, cut-take}
 use Rattle.stations.specs.Member.{member}
 use Rattle.quorum.specs.Family.{quorum}
 use Rattle.quorum.specs.Need.{without}
+
+-- each of them is a quorum of the table
+pub record Left (i : ℕ) (table : List ℕ) (p : ℕ) : Type 0 where
+  pub number : ℕ
+  pub lt : number < length table
+  pub is : quorum table number ≡ quorum (without i table) p
+  pub lacks : member (quorum table number) i ≡ false
+
+pub left-at : (i : ℕ) (table : List ℕ) (p : ℕ) → p < length (without i table) → Left i table p
+left-at i [] p h = absurd (omega arith)
+left-at i (q ∷ table) p h = go (member q i) refl (left-at i table)
+  where
+    later : (r : ℕ) → quorum (without i (q ∷ table)) p ≡ quorum (without i table) r → Left i table r → Left i (q ∷ table) p
+    later r e l = record { number = suc (l .number); lt = omega (arith, l .lt); is = l .is ∙ sym e; lacks = l .lacks }
+
+    here : (t : ℕ) → t ≡ p → member q i ≡ false → ((r : ℕ) → r < length (without i table) → Left i table r) → Left i (q ∷ table) p
+    here zero e m rest = record { number = 0; lt = omega arith; is = rw (sym e, m); lacks = m }
+    here (suc t) e m rest = later t (rw (sym e, m)) (rest t (omega (arith, rw (sym e, m) at h)))
+
+    go : (t : Bool) → member q i ≡ t → ((r : ℕ) → r < length (without i table) → Left i table r) → Left i (q ∷ table) p
+    go true m rest = later p (rw m) (rest p (rw m at h))
+    go false m rest = here p refl m rest
 
 module _ (i : ℕ) (table : List ℕ) (room : ℕ) where
   leaves : (p : ℕ) → p < length table → member (quorum table p) i ≡ true → without i (drop p table) ≡ without i (drop (p + 1) table)

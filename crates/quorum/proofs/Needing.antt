@@ -5,26 +5,28 @@ use mathlib.Core.Bool.{Bool, true, false}
 use mathlib.Core.List.{List, [], _∷_}
 use mathlib.Core.Logic.{_⊎_, inl, inr, ⊎-elim, by-cases}
 use mathlib.Core.Path.{_≡_, refl, sym, ap, _∙_}
-use Prim.Native.Nat.{ℕ, zero, suc, _+_, _≤_, _<_, _^_, min, zero-le}
+use Prim.Native.Nat.{ℕ, zero, suc, _+_, _-_, _≤_, _<_, _^_, min, zero-le}
 use native.Mathlib.Decide.{ℕ-discrete, decLe}
 use native.Mathlib.Numerals.{add-one}
 use native.Mathlib.Omega.{arith}
 use lib.Arith.{lt-of-le-ne}
 use lib.Bits.{bitAnd, and-le-l}
 use lib.ListN.{length, getD, drop, set, drop-of-length-le}
-use lib.Pow.{ones-lt}
+use lib.Pow.{ones-lt, pow-pos, pow-mono}
 use lib.Seq.{drop-cons, getD-set-same, getD-set-other}
 use borrow.Author.Count.{below-more}
 use borrow.Author.Tests.{eq-eqb, ne-eqb}
 use Rattle.lists.proofs.Tests.{clash}
 use Rattle.stations.specs.Member.{member}
 use Rattle.stations.specs.Sets.{everyone}
+use Rattle.stations.proofs.Built.{and-under}
 use Rattle.stations.proofs.Counts.{count-le}
 use Rattle.stations.proofs.Members.{member-zero, member-and, and-swap}
 use Rattle.quorum.specs.Family.{quorum, commonWithin, Numbers}
 use Rattle.quorum.specs.Limits.{mostStations}
-use Rattle.quorum.specs.Need.{Emptying, Need, noNeed, without, leastByte, oneMore, sizeOf}
+use Rattle.quorum.specs.Need.{Emptying, Need, noNeed, without, leastByte, oneMore, oneLess, sizeOf}
 use Rattle.quorum.specs.Width.{width}
+use Rattle.quorum.proofs.Leaving.{Left, left-at}
 use Rattle.quorum.proofs.Thinned.{with-quorum, thinned}
 use Rattle.quorum.proofs.Widths.{Width, width-is, emptied-list}
 
@@ -84,12 +86,13 @@ least-byte bytes s b i (q ∷ table) =
     go true e l l′ = rw e (skips (leastByte bytes s b (without i table)) e l)
     go false e l l′ = rw e (takes (leastByte bytes s (min b x) (without i table)) e l′)
 
--- 0 is the least of all
-pub least-zero : (bytes : List ℕ) (s : ℕ) (table : List ℕ) → leastByte bytes s 0 table ≡ 0
-least-zero bytes s [] = refl
-least-zero bytes s (q ∷ table) =
-    let zero-least : min 0 (getD bytes (bitAnd s q) 0) ≡ 0 = omega arith in
-    ap (λ (b : ℕ). leastByte bytes s b table) zero-least ∙ least-zero bytes s table
+-- none of the bytes is lower
+pub least-low : (bytes : List ℕ) (s b : ℕ) (table : List ℕ)
+    → ((p : ℕ) → p < length table → b ≤ getD bytes (bitAnd s (quorum table p)) 0) → leastByte bytes s b table ≡ b
+least-low bytes s b [] h = refl
+least-low bytes s b (q ∷ table) h =
+    let same : min b (getD bytes (bitAnd s q) 0) ≡ b = omega (arith, h 0 (omega arith)) in
+    ap (λ (c : ℕ). leastByte bytes s c table) same ∙ least-low bytes s b table (λ p l. h (suc p) (omega arith))
 
 -- one quorum further, and at the end
 pub least-next : (bytes : List ℕ) (s b : ℕ) (table : List ℕ) (p : ℕ) → p < length table
@@ -190,6 +193,36 @@ module _ (n : ℕ) (table : List ℕ) (few : n ≤ mostStations) where
         (λ (found : (p : ℕ) × (p < length table) × (member (quorum table p) i ≡ false) × (r ≡ getD bytes (bitAnd s (quorum table p)) 0)).
         when-reached some (found .0) (found .1) (found .2) (found .3))
         (l .reached))
+
+  -- a quorum leaves at most one less than a set needs
+  need-left : (c p v w : ℕ) → c < 2 ^ n → p < length table → Need table c v → Need table (bitAnd c (quorum table p)) w → oneLess v ≤ w
+  unfolding with-quorum
+  need-left c p v w h lt (Need.least e size low) (Need.least e′ size′ low′) =
+      let small = need-few h e low in rw (ne-eqb v noNeed (λ x. omega arith)) (omega (arith, low (with-quorum table c p lt e′)))
+  need-left c p v w h lt (Need.least e size low) (Need.never is none) =
+      let small = need-few h e low in rw (ne-eqb v noNeed (λ x. omega arith)) (omega arith)
+  need-left c p v w h lt (Need.never is none) (Need.least e′ size′ low′) = absurd (none (with-quorum table c p lt e′))
+  need-left c p v w h lt (Need.never is none) (Need.never is′ none′) = rw (eq-eqb v noNeed is) (omega arith)
+
+  -- nor does one without the highest station
+  pub left-low : (bytes : List ℕ) (i s : ℕ) → suc i ≤ n → 2 ^ i ≤ s → s < 2 ^ i + 2 ^ i → ((c : ℕ) → c < s → Need table c (getD bytes c 0))
+      → (p : ℕ) → p < length (without i table) → oneLess (getD bytes (s - 2 ^ i) 0) ≤ getD bytes (bitAnd s (quorum (without i table) p)) 0
+  left-low bytes i s some from to below p h = go (left-at i table p h)
+    where
+      t : ℕ
+      t = s - 2 ^ i
+
+      go : Left i table p → oneLess (getD bytes (s - 2 ^ i) 0) ≤ getD bytes (bitAnd s (quorum (without i table) p)) 0
+      go l =
+          let q = quorum table (l .number) in
+          let parts : s ≡ 2 ^ i + t = omega arith in
+          let rest : bitAnd s (quorum (without i table) p) ≡ bitAnd t q =
+          ap (λ (c : ℕ). bitAnd s c) (sym (l .is)) ∙ ap (λ (c : ℕ). bitAnd c q) parts ∙ and-under i t q (omega arith) (l .lacks) in
+          let few : t < 2 ^ n = omega (arith, pow-mono {i = i} {j = n} (omega arith)) in
+          let most : oneLess (getD bytes t 0) ≤ getD bytes (bitAnd t q) 0 =
+          need-left t (l .number) (getD bytes t 0) (getD bytes (bitAnd t q) 0) few (l .lt) (below t (omega (arith, pow-pos i)))
+          (below (bitAnd t q) (omega (arith, and-le-l t q, pow-pos i))) in
+          rw rest most
 
   -- the empty set needs no quorum
   need-zero : Need table 0 0

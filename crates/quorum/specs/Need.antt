@@ -2,7 +2,7 @@
 use mathlib.Core.Bool.{cond}
 use mathlib.Core.List.{List, [], _∷_}
 use mathlib.Core.Path.{_≡_}
-use Prim.Native.Nat.{ℕ, suc, _+_, _^_, _≤_, _<_, min}
+use Prim.Native.Nat.{ℕ, suc, _+_, _-_, _^_, _≤_, _<_, min}
 use lib.Bits.{bitAnd}
 use lib.Dec.{eqb, ltb}
 use lib.ListN.{length, getD}
@@ -41,6 +41,10 @@ leastByte bytes s b (q ∷ table) = leastByte bytes s (min b (getD bytes (bitAnd
 -- one quorum more
 abbrev pub oneMore : ℕ → ℕ
 oneMore v = cond (eqb v noNeed) noNeed (v + 1)
+
+-- one quorum less: no quorum leaves a set that needs less
+abbrev pub oneLess : ℕ → ℕ
+oneLess v = cond (eqb v noNeed) noNeed (v - 1)
 
 -- the size that a byte says, 0 where it says that there is none
 abbrev pub sizeOf : ℕ → ℕ

@@ -1,11 +1,14 @@
 -- Sets built station by station: who belongs to them, and how many.
 -- Assumes nothing.
-use mathlib.Core.Bool.{Bool, true, false, cond}
+use mathlib.Core.Bool.{Bool, true, false, cond, _&&_, and-false}
+use mathlib.Core.Logic.{by-cases}
 use mathlib.Core.Path.{_≡_, refl, sym, ap, _∙_}
 use Prim.Native.Nat.{ℕ, zero, suc, _+_, _-_, _*_, _/_, _%_, _^_, _≤_, _<_}
-use native.Mathlib.Nat.{one-mul, zero-add, add-zero, add-comm, mul-add-div-right}
+use native.Mathlib.Decide.{ℕ-discrete, decLe}
+use native.Mathlib.Nat.{pow-suc, one-mul, zero-add, add-zero, add-comm, mul-add-div-right}
 use native.Mathlib.Numerals.{add-one}
 use native.Mathlib.Omega.{arith}
+use lib.Bits.{bitAnd}
 use lib.Dec.{eqb}
 use lib.Pow.{pow-pos, pow-add, high}
 use borrow.Author.Tests.{lt-ltb, le-ltb}
@@ -14,7 +17,7 @@ use Rattle.lists.proofs.Counting.{many-same, many-pass, many-fail}
 use Rattle.lists.specs.Counting.{howMany}
 use Rattle.stations.specs.Member.{member}
 use Rattle.stations.specs.Sets.{countBelow, setOf, only, places}
-use Rattle.stations.proofs.Members.{member-below}
+use Rattle.stations.proofs.Members.{member-below, member-and, member-ext}
 
 -- ---- station n and stations below it
 
@@ -36,6 +39,26 @@ member-under n q i h =
     let upper : (2 ^ n + q) / 2 ^ i ≡ 2 ^ suc (n - suc i) + q / 2 ^ i = ap (λ (x : ℕ). (x + q) / 2 ^ i) power ∙ mul-add-div-right (pow-pos i) (2 ^ suc (n - suc i)) q in
     let bit : (2 ^ n + q) / 2 ^ i % 2 ≡ q / 2 ^ i % 2 = omega arith in
     ap (λ (x : ℕ). eqb x 1) bit
+
+add-lt-pow′ : (n t : ℕ) → t < 2 ^ n → 2 ^ n + t < 2 ^ suc n
+add-lt-pow′ n t h = let twice = pow-suc 2 n in omega arith
+
+-- what a set without station n has in common with a set of which n is the highest
+pub and-under : (n t q : ℕ) → t < 2 ^ n → member q n ≡ false → bitAnd (2 ^ n + t) q ≡ bitAnd t q
+and-under n t q h lacks =
+    member-ext (bitAnd (2 ^ n + t) q) (bitAnd t q) (λ i. member-and (2 ^ n + t) q i ∙ same i ∙ sym (member-and t q i))
+  where
+    none : (i : ℕ) → n ≤ i → (member (2 ^ n + t) i && member q i) ≡ false
+    none i l =
+        by-cases (ℕ-discrete i n)
+        (λ (e : i ≡ n). ap (λ (b : Bool). member (2 ^ n + t) i && b) (ap (λ (k : ℕ). member q k) e ∙ lacks) ∙ and-false (member (2 ^ n + t) i))
+        (λ (d : i ≡ n → ⊥). ap (λ (b : Bool). b && member q i) (member-below (suc n) (2 ^ n + t) i (add-lt-pow′ n t h) (omega arith)))
+
+    same : (i : ℕ) → (member (2 ^ n + t) i && member q i) ≡ (member t i && member q i)
+    same i =
+        by-cases (decLe (suc i) n)
+        (λ (l : suc i ≤ n). ap (λ (b : Bool). b && member q i) (member-under n t i l))
+        (λ (l : ¬ (suc i ≤ n)). none i (omega arith) ∙ sym (ap (λ (b : Bool). b && member q i) (member-below n t i h (omega arith))))
 
 -- ---- one station alone
 

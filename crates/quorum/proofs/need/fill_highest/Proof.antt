@@ -11,9 +11,9 @@ use lib.Pow.{pow-mono}
 use lib.Seq.{drop-set-lt}
 use borrow.Author.Needs.{needs}
 use Rattle.stations.proofs.Built.{only-below, member-highest}
-use Rattle.quorum.specs.Need.{Need, noNeed, leastByte, oneMore}
+use Rattle.quorum.specs.Need.{Need, noNeed, leastByte, oneMore, oneLess}
 use Rattle.quorum.specs.Scratch.{scratchBytes}
-use Rattle.quorum.proofs.Needing.{filled-next}
+use Rattle.quorum.proofs.Needing.{left-low, filled-next}
 use Rattle.quorum.proofs.need.fill_highest.Statement.{statement}
 use Rattle.quorum.proofs.need.fill_highest.Tie as tie
 
@@ -23,6 +23,7 @@ Inv-loop i quorums scratch₀ found len first end set₀ scratch set =
     × (length scratch ≡ length scratch₀)
     × (drop scratchBytes scratch ≡ drop scratchBytes scratch₀)
     × ((s : ℕ) → s < set → Need quorums s (getD scratch s 0))
+    × (first ≡ 2 ^ i)
 
 abbrev μ-loop : tie.MeasureT-loop
 μ-loop i quorums scratch₀ found len first end set₀ scratch set = end - set
@@ -57,18 +58,41 @@ loop-holds c =
       refl,
       refl,
       (λ s h. start .pre .1 s (omega arith)),
+      first,
     )
 
+sub-below : tie.Need-sub-below Inv-loop μ-loop
+sub-below c = omega (arith, c .before .loop .inv .0, c .before .loop .inv .8)
+
+cast-below : tie.Need-cast-below Inv-loop μ-loop
+cast-below c = omega (arith, c .before .loop .inv .1, c .before .loop .inv .3)
+
+slice-read-below : tie.Need-slice-read-below Inv-loop μ-loop
+slice-read-below c = omega (arith, c .before .before .loop .inv .1, c .before .before .loop .inv .3, c .before .before .loop .inv .4)
+
+one-less-requires : tie.Need-one-less-requires Inv-loop μ-loop
+one-less-requires c κs = search needs
+
 array-share-prefix-found : tie.Need-array-share-prefix-found Inv-loop μ-loop
-array-share-prefix-found c = c .before .before .before .before .without .ensures .0
+array-share-prefix-found c = c .before .before .before .before .before .before .without .ensures .0
 
 slice-aggregate-through-one : tie.Need-slice-aggregate-through-one Inv-loop μ-loop
 slice-aggregate-through-one c =
-    let found = c .before .before .before .before .before .without in
+    let found = c .before .before .before .before .before .before .before .without in
     sym (length-take (found .result) (found .last .1 .1 .0) ∙ omega (arith, found .ensures .0))
 
 through-one-requires : tie.Need-through-one-requires Inv-loop μ-loop
-through-one-requires c κs = search needs
+through-one-requires c κs =
+    let start = c .before .before .before .before .before .before .before .before .before .before .before .before in
+    let at = c .before .before .before .before .before .loop in
+    let i = start .args .i in
+    let found = c .before .before .before .before .before .before .before .before .without .ensures .1 in
+    let least : c .before .before .one-less .result ≡ oneLess (getD (at .scratch) (at .set - 2 ^ i) 0) =
+    c .before .before .one-less .ensures ∙ ap (λ (first : ℕ). oneLess (getD (at .scratch) (at .set - first) 0)) (at .inv .8) in (
+      omega (arith, at .inv .3, at .inv .4),
+      (λ p h. rw (found, least)
+          (left-low (suc i) (start .args .quorums .now) (omega arith) (at .scratch) i (at .set) (omega arith) (at .inv .0) (omega (arith, at .inv .2)) (at .inv .7) p (rw found at h))),
+    )
 
 cast-scratch : tie.Need-cast-scratch Inv-loop μ-loop
 cast-scratch c = search needs
@@ -84,11 +108,11 @@ loop-less c = search needs
 
 loop-again : tie.Need-loop-again Inv-loop μ-loop
 loop-again c =
-    let start = c .before .before .before .before .before .before .before .before .before .before .before in
-    let at = c .before .before .before .before .loop in
+    let start = c .before .before .before .before .before .before .before .before .before .before .before .before .before in
+    let at = c .before .before .before .before .before .before .loop in
     let i = start .args .i in
     let table = start .args .quorums .now in
-    let found = c .before .before .before .before .before .before .before .without .ensures .1 in
+    let found = c .before .before .before .before .before .before .before .before .before .without .ensures .1 in
     let byte = c .through-one .ensures ∙ ap (λ (few : List ℕ). oneMore (leastByte (at .scratch) (at .set) noNeed few)) found in (
       omega arith,
       omega arith,
@@ -99,6 +123,7 @@ loop-again c =
       drop-set-lt scratchBytes (at .scratch) (at .set) (c .through-one .result) (omega (arith, at .inv .3)) ∙ at .inv .6,
       filled-next (suc i) table (omega arith) (at .scratch) i (at .set) (c .through-one .result) (member-highest i (at .set) (at .inv .0) (omega (arith, at .inv .2)))
           (omega (arith, at .inv .2, double i)) (omega (arith, at .inv .3, at .inv .4)) byte (at .inv .7),
+      at .inv .8,
     )
 
 same-length : tie.Need-same-length Inv-loop μ-loop
@@ -121,6 +146,10 @@ fill-highest-spec =
     only-requires
     add-end
     loop-holds
+    sub-below
+    cast-below
+    slice-read-below
+    one-less-requires
     array-share-prefix-found
     slice-aggregate-through-one
     through-one-requires
