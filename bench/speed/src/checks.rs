@@ -186,3 +186,9 @@ pub fn compare() {
     }
     print_aims(&cases[..worst_count], &cases);
 }
+
+#[test]
+fn all_answers_agree() {
+    let cases = tables::worst().into_iter().chain(tables::typical());
+    assert_all_same(&cases.map(Timed::new).collect::<Vec<_>>());
+}

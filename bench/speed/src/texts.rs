@@ -6,28 +6,19 @@ use model::random;
 use model::rng::Rng;
 use model::text::{Do, Step};
 
-fn step(what: Do, station: usize, with: usize, units: usize) -> Step {
-    Step {
-        what,
-        station,
-        with,
-        units,
-    }
-}
-
 /// The three stations of P2 take their turns: collect, hold, give back.
 pub fn turns() -> String {
     let quorums = [3, 5, 6];
     let mut turns = String::new();
     for (s, members) in [[0, 1], [0, 2], [1, 2]].into_iter().enumerate() {
-        turns += &step(Do::Request, s, s, 1).lines();
+        turns += &Step::new(Do::Request, s, s, 1).lines();
         for j in members {
-            turns += &step(Do::Up, s, j, 0).lines();
-            turns += &step(Do::Down, s, j, 0).lines();
+            turns += &Step::new(Do::Up, s, j, 0).lines();
+            turns += &Step::new(Do::Down, s, j, 0).lines();
         }
-        turns += &step(Do::Release, s, 0, 0).lines();
+        turns += &Step::new(Do::Release, s, 0, 0).lines();
         for j in members {
-            turns += &step(Do::Up, s, j, 0).lines();
+            turns += &Step::new(Do::Up, s, j, 0).lines();
         }
     }
     let mut text = table_lines(3, 1, &quorums);
@@ -45,12 +36,12 @@ fn possible(rng: &mut Rng, record: &Record) -> Step {
         match rng.below(8) {
             0 if record.stations[s] == Phase::Idle => {
                 let quorum = rng.below(record.table.len());
-                return step(Do::Request, s, quorum, rng.between(1, record.stock));
+                return Step::new(Do::Request, s, quorum, rng.between(1, record.stock));
             }
-            1..=3 if !record.up[s][j].is_empty() => return step(Do::Up, s, j, 0),
-            4..=6 if !record.down[s][j].is_empty() => return step(Do::Down, s, j, 0),
+            1..=3 if !record.up[s][j].is_empty() => return Step::new(Do::Up, s, j, 0),
+            4..=6 if !record.down[s][j].is_empty() => return Step::new(Do::Down, s, j, 0),
             7 if rng.percent(10) && matches!(record.stations[s], Phase::Holding { .. }) => {
-                return step(Do::Release, s, 0, 0)
+                return Step::new(Do::Release, s, 0, 0)
             }
             _ => {}
         }
@@ -78,13 +69,13 @@ pub fn contention() -> String {
 fn refused(rng: &mut Rng) -> Step {
     let (s, j) = (rng.below(12), rng.below(12));
     match rng.below(7) {
-        0 => step(Do::Up, s, j, 0),
-        1 => step(Do::Down, s, j, 0),
-        2 => step(Do::Release, s, 0, 0),
-        3 => step(Do::Request, s, rng.between(1, 65535), 1),
-        4 => step(Do::Request, s, 0, rng.between(201, 65535)),
-        5 => step(Do::Request, rng.between(12, 65535), 0, 1),
-        _ => step(Do::Down, s, rng.between(12, 65535), 0),
+        0 => Step::new(Do::Up, s, j, 0),
+        1 => Step::new(Do::Down, s, j, 0),
+        2 => Step::new(Do::Release, s, 0, 0),
+        3 => Step::new(Do::Request, s, rng.between(1, 65535), 1),
+        4 => Step::new(Do::Request, s, 0, rng.between(201, 65535)),
+        5 => Step::new(Do::Request, rng.between(12, 65535), 0, 1),
+        _ => Step::new(Do::Down, s, rng.between(12, 65535), 0),
     }
 }
 
@@ -92,7 +83,7 @@ fn refused(rng: &mut Rng) -> Step {
 fn filling(bytes: usize) -> Step {
     let number = |digits: usize| 10usize.pow(digits as u32) / 9 * 5;
     let station = ((bytes - 29) / 2).max(1);
-    step(Do::Up, number(station), number(bytes - 29 - station), 0)
+    Step::new(Do::Up, number(station), number(bytes - 29 - station), 0)
 }
 
 /// All steps are refused. The text has exactly 65,536 bytes.

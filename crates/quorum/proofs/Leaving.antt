@@ -36,6 +36,20 @@ left-at i (q ∷ table) p h = go (member q i) refl (left-at i table)
     go true m rest = later p (rw m) (rest p (rw m at h))
     go false m rest = here p refl m rest
 
+-- and each quorum of the table without the station is one of them
+pub left-has : (i : ℕ) (table : List ℕ) (r : ℕ) → r < length table → member (quorum table r) i ≡ false
+    → (p : ℕ) × (p < length (without i table)) × (quorum (without i table) p ≡ quorum table r)
+left-has i [] r h lacks = absurd (omega arith)
+left-has i (q ∷ table) zero h lacks = (0, rw lacks (omega arith), rw lacks refl)
+left-has i (q ∷ table) (suc r) h lacks = go (member q i) refl (left-has i table r (omega arith) lacks)
+  where
+    Place : List ℕ → Type 0
+    Place few = (p : ℕ) × (p < length few) × (quorum few p ≡ quorum table r)
+
+    go : (t : Bool) → member q i ≡ t → Place (without i table) → Place (without i (q ∷ table))
+    go true m at = rw m at
+    go false m at = rw m (suc (at .0), omega (arith, at .1), at .2)
+
 module _ (i : ℕ) (table : List ℕ) (room : ℕ) where
   leaves : (p : ℕ) → p < length table → member (quorum table p) i ≡ true → without i (drop p table) ≡ without i (drop (p + 1) table)
   leaves p h has = rw (add-one p, drop-cons table p 0 h, has)

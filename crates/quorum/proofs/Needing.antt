@@ -26,73 +26,54 @@ use Rattle.quorum.specs.Family.{quorum, commonWithin, Numbers}
 use Rattle.quorum.specs.Limits.{mostStations}
 use Rattle.quorum.specs.Need.{Emptying, Need, noNeed, without, leastByte, oneMore, oneLess, sizeOf}
 use Rattle.quorum.specs.Width.{width}
-use Rattle.quorum.proofs.Leaving.{Left, left-at}
+use Rattle.quorum.proofs.Leaving.{Left, left-at, left-has}
 use Rattle.quorum.proofs.Thinned.{with-quorum, thinned}
 use Rattle.quorum.proofs.Widths.{Width, width-is, emptied-list}
 
 -- ---- the least byte
 
--- r is the least of b and the bytes of the sets that a quorum without station i leaves of s
-record LeastByte (bytes : List ℕ) (s b i : ℕ) (table : List ℕ) (r : ℕ) : Type 0 where
+-- r is the least of b and the bytes of the sets that a quorum leaves of s
+record LeastByte (bytes : List ℕ) (s b : ℕ) (table : List ℕ) (r : ℕ) : Type 0 where
   below : r ≤ b
-  low : (p : ℕ) → p < length table → member (quorum table p) i ≡ false → r ≤ getD bytes (bitAnd s (quorum table p)) 0
-  reached : (r ≡ b) ⊎ ((p : ℕ) × (p < length table) × (member (quorum table p) i ≡ false) × (r ≡ getD bytes (bitAnd s (quorum table p)) 0))
+  low : (p : ℕ) → p < length table → r ≤ getD bytes (bitAnd s (quorum table p)) 0
+  reached : (r ≡ b) ⊎ ((p : ℕ) × (p < length table) × (r ≡ getD bytes (bitAnd s (quorum table p)) 0))
 
-least-byte : (bytes : List ℕ) (s b i : ℕ) (table : List ℕ) → LeastByte bytes s b i table (leastByte bytes s b (without i table))
-least-byte bytes s b i [] = record { below = omega arith; low = λ p h. absurd (omega arith); reached = inl refl }
-least-byte bytes s b i (q ∷ table) =
-    go (member q i) refl (least-byte bytes s b i table) (least-byte bytes s (min b (getD bytes (bitAnd s q) 0)) i table)
+least-byte : (bytes : List ℕ) (s b : ℕ) (table : List ℕ) → LeastByte bytes s b table (leastByte bytes s b table)
+least-byte bytes s b [] = record { below = omega arith; low = λ p h. absurd (omega arith); reached = inl refl }
+least-byte bytes s b (q ∷ table) = go (least-byte bytes s (min b (getD bytes (bitAnd s q) 0)) table)
   where
     x : ℕ
     x = getD bytes (bitAnd s q) 0
 
-    Later : ℕ → Type 0
-    Later r = (p : ℕ) × (p < length table) × (member (quorum table p) i ≡ false) × (r ≡ getD bytes (bitAnd s (quorum table p)) 0)
+    r : ℕ
+    r = leastByte bytes s (min b (getD bytes (bitAnd s q) 0)) table
 
-    Found : ℕ → Type 0
-    Found r = (p : ℕ) × (p < suc (length table)) × (member (quorum (q ∷ table) p) i ≡ false) × (r ≡ getD bytes (bitAnd s (quorum (q ∷ table) p)) 0)
+    low′ : LeastByte bytes s (min b x) table r → (p : ℕ) → p < suc (length table) → r ≤ getD bytes (bitAnd s (quorum (q ∷ table) p)) 0
+    low′ l zero h = omega (arith, l .below)
+    low′ l (suc p) h = l .low p (omega arith)
 
-    later : (r : ℕ) → Later r → Found r
-    later r found = (suc (found .0), omega (arith, found .1), found .2, found .3)
+    first : LeastByte bytes s (min b x) table r → r ≡ min b x
+        → (r ≡ b) ⊎ ((p : ℕ) × (p < suc (length table)) × (r ≡ getD bytes (bitAnd s (quorum (q ∷ table) p)) 0))
+    first l e =
+        by-cases (decLe b x) (λ (h : b ≤ x). inl (omega arith)) (λ (h : ¬ (b ≤ x)). inr (0, omega arith, omega arith))
 
-    low′ : (r m : ℕ) → LeastByte bytes s m i table r → (member q i ≡ false → r ≤ x)
-        → (p : ℕ) → p < suc (length table) → member (quorum (q ∷ table) p) i ≡ false → r ≤ getD bytes (bitAnd s (quorum (q ∷ table) p)) 0
-    low′ r m l here zero h lacks = here lacks
-    low′ r m l here (suc p) h lacks = l .low p (omega arith) lacks
-
-    first : (r : ℕ) → r ≡ min b x → member q i ≡ false → (r ≡ b) ⊎ Found r
-    first r e lacks =
-        by-cases (decLe b x) (λ (h : b ≤ x). inl (omega arith)) (λ (h : ¬ (b ≤ x)). inr (0, omega arith, lacks, omega arith))
-
-    skips : (r : ℕ) → member q i ≡ true → LeastByte bytes s b i table r → LeastByte bytes s b i (q ∷ table) r
-    skips r has l =
-        record {
-          below = l .below;
-          low = low′ r b l (λ lacks. absurd (clash has lacks));
-          reached = ⊎-elim (λ (e : r ≡ b). inl e) (λ (found : Later r). inr (later r found)) (l .reached);
-        }
-
-    takes : (r : ℕ) → member q i ≡ false → LeastByte bytes s (min b x) i table r → LeastByte bytes s b i (q ∷ table) r
-    takes r lacks l =
+    go : LeastByte bytes s (min b x) table r → LeastByte bytes s b (q ∷ table) r
+    go l =
         record {
           below = omega (arith, l .below);
-          low = low′ r (min b x) l (λ _. omega (arith, l .below));
-          reached = ⊎-elim (λ (e : r ≡ min b x). first r e lacks) (λ (found : Later r). inr (later r found)) (l .reached);
+          low = low′ l;
+          reached = ⊎-elim (first l) (λ (found : (p : ℕ) × (p < length table) × (r ≡ getD bytes (bitAnd s (quorum table p)) 0)). inr (suc (found .0), omega (arith, found .1), found .2)) (l .reached);
         }
-
-    go : (t : Bool) → member q i ≡ t → LeastByte bytes s b i table (leastByte bytes s b (without i table))
-        → LeastByte bytes s (min b x) i table (leastByte bytes s (min b x) (without i table))
-        → LeastByte bytes s b i (q ∷ table) (leastByte bytes s b (without i (q ∷ table)))
-    go true e l l′ = rw e (skips (leastByte bytes s b (without i table)) e l)
-    go false e l l′ = rw e (takes (leastByte bytes s (min b x) (without i table)) e l′)
 
 -- none of the bytes is lower
 pub least-low : (bytes : List ℕ) (s b : ℕ) (table : List ℕ)
     → ((p : ℕ) → p < length table → b ≤ getD bytes (bitAnd s (quorum table p)) 0) → leastByte bytes s b table ≡ b
-least-low bytes s b [] h = refl
-least-low bytes s b (q ∷ table) h =
-    let same : min b (getD bytes (bitAnd s q) 0) ≡ b = omega (arith, h 0 (omega arith)) in
-    ap (λ (c : ℕ). leastByte bytes s c table) same ∙ least-low bytes s b table (λ p l. h (suc p) (omega arith))
+least-low bytes s b table h =
+    let l = least-byte bytes s b table in
+    ⊎-elim (λ (e : leastByte bytes s b table ≡ b). e)
+    (λ (found : (p : ℕ) × (p < length table) × (leastByte bytes s b table ≡ getD bytes (bitAnd s (quorum table p)) 0)).
+    omega (arith, l .below, h (found .0) (found .1), found .2))
+    (l .reached)
 
 -- one quorum further, and at the end
 pub least-next : (bytes : List ℕ) (s b : ℕ) (table : List ℕ) (p : ℕ) → p < length table
@@ -151,12 +132,17 @@ module _ (n : ℕ) (table : List ℕ) (few : n ≤ mostStations) where
       go true m later = behind (later m)
       go false m later = record { number = p; lt = lt; lacks = m; rest = record { list = f; numbers = numbers; empties = e }; size = refl }
 
-  module _ (bytes : List ℕ) (i s : ℕ) (ready : Ready bytes i s) (r : ℕ) (l : LeastByte bytes s noNeed i table r) where
+  module _ (bytes : List ℕ) (i s : ℕ) (ready : Ready bytes i s) (r : ℕ) (l : LeastByte bytes s noNeed (without i table) r) where
     below-s : (p : ℕ) → member (quorum table p) i ≡ false → bitAnd s (quorum table p) < s
     below-s p lacks = lt-of-le-ne (and-le-l s (quorum table p)) differs
       where
         differs : bitAnd s (quorum table p) ≡ s → ⊥
         differs same = clash (ready .has) (ap (λ (c : ℕ). member c i) (sym same) ∙ member-and s (quorum table p) i ∙ rw (ready .has, lacks))
+
+    least : (p : ℕ) → p < length table → member (quorum table p) i ≡ false → r ≤ getD bytes (bitAnd s (quorum table p)) 0
+    least p lt lacks =
+        let (place, inside, is) = left-has i table p lt lacks in
+        let same = ap (λ (q : ℕ). getD bytes (bitAnd s q) 0) is in omega (arith, l .low place inside)
 
     -- quorums that empty s are more than the least byte
     more : (g : Emptying table s) → r < length (g .list)
@@ -166,7 +152,7 @@ module _ (n : ℕ) (table : List ℕ) (few : n ≤ mostStations) where
         go k = at-least (ready .smaller (bitAnd s (quorum table (k .number))) (below-s (k .number) (k .lacks)))
           where
             at-least : Need table (bitAnd s (quorum table (k .number))) (getD bytes (bitAnd s (quorum table (k .number))) 0) → r < length (g .list)
-            at-least (Need.least e size low) = omega (arith, low (k .rest), l .low (k .number) (k .lt) (k .lacks), k .size)
+            at-least (Need.least e size low) = omega (arith, low (k .rest), least (k .number) (k .lt) (k .lacks), k .size)
             at-least (Need.never v never) = absurd (never (k .rest))
 
     when-none : r ≡ noNeed → Emptying table s → ⊥
@@ -190,8 +176,9 @@ module _ (n : ℕ) (table : List ℕ) (few : n ≤ mostStations) where
         (λ (e : r ≡ noNeed). rw (eq-eqb r noNeed e) (Need.never refl (when-none e)))
         (λ (some : r ≡ noNeed → ⊥).
         ⊎-elim (λ (e : r ≡ noNeed). absurd (some e))
-        (λ (found : (p : ℕ) × (p < length table) × (member (quorum table p) i ≡ false) × (r ≡ getD bytes (bitAnd s (quorum table p)) 0)).
-        when-reached some (found .0) (found .1) (found .2) (found .3))
+        (λ (found : (p : ℕ) × (p < length (without i table)) × (r ≡ getD bytes (bitAnd s (quorum (without i table) p)) 0)).
+        let left = left-at i table (found .0) (found .1) in
+        when-reached some (left .number) (left .lt) (left .lacks) (found .2 ∙ ap (λ (q : ℕ). getD bytes (bitAnd s q) 0) (sym (left .is))))
         (l .reached))
 
   -- a quorum leaves at most one less than a set needs
@@ -231,7 +218,7 @@ module _ (n : ℕ) (table : List ℕ) (few : n ≤ mostStations) where
 
   -- a set with station i needs one quorum more than the least that a quorum without i leaves
   pub need-step : (bytes : List ℕ) (i s : ℕ) → Ready bytes i s → Need table s (oneMore (leastByte bytes s noNeed (without i table)))
-  need-step bytes i s ready = stepped bytes i s ready (leastByte bytes s noNeed (without i table)) (least-byte bytes s noNeed i table)
+  need-step bytes i s ready = stepped bytes i s ready (leastByte bytes s noNeed (without i table)) (least-byte bytes s noNeed (without i table))
 
   -- ---- the bytes, one set further
 

@@ -19,15 +19,6 @@ pub struct Met {
     pub served_together: usize,
 }
 
-fn step(what: Do, station: usize, with: usize, units: usize) -> Step {
-    Step {
-        what,
-        station,
-        with,
-        units,
-    }
-}
-
 /// Now and then a number that no machine has.
 fn number(rng: &mut Rng, limit: usize) -> usize {
     match rng.below(12) {
@@ -43,10 +34,10 @@ pub fn any_step(rng: &mut Rng, n: usize, k: usize, quorums: usize) -> Step {
     match rng.pick(&Do::ALL) {
         Do::Request => {
             let with = number(rng, quorums + 1);
-            step(Do::Request, station, with, number(rng, k + 2))
+            Step::new(Do::Request, station, with, number(rng, k + 2))
         }
-        Do::Release => step(Do::Release, station, 0, 0),
-        what => step(what, station, number(rng, n + 1), 0),
+        Do::Release => Step::new(Do::Release, station, 0, 0),
+        what => Step::new(what, station, number(rng, n + 1), 0),
     }
 }
 
@@ -56,10 +47,10 @@ fn deliveries(r: &Record) -> Vec<Step> {
     for s in 0..r.n {
         for j in 0..r.n {
             if !r.up[s][j].is_empty() {
-                found.push(step(Do::Up, s, j, 0));
+                found.push(Step::new(Do::Up, s, j, 0));
             }
             if !r.down[s][j].is_empty() {
-                found.push(step(Do::Down, s, j, 0));
+                found.push(Step::new(Do::Down, s, j, 0));
             }
         }
     }
@@ -74,14 +65,14 @@ fn requests(rng: &mut Rng, r: &Record) -> Vec<Step> {
             1 => r.stock,
             _ => rng.between(1, r.stock),
         };
-        step(Do::Request, s, rng.below(r.table.len()), units)
+        Step::new(Do::Request, s, rng.below(r.table.len()), units)
     })
     .collect()
 }
 
 fn releases(r: &Record) -> Vec<Step> {
     let holding = (0..r.n).filter(|&s| matches!(r.stations[s], Phase::Holding { .. }));
-    holding.map(|s| step(Do::Release, s, 0, 0)).collect()
+    holding.map(|s| Step::new(Do::Release, s, 0, 0)).collect()
 }
 
 /// Mostly a step that the record allows.
