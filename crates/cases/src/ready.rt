@@ -33,7 +33,7 @@ fn print_members(quorums: &[u16]) {
 // The check's answer to the table at a stock of k.
 fn print_check(n: usize, k: usize, quorums: &[u16]) {
     report::number(b" | k=", k);
-    let mut scratch = [0u8; 4096];
+    let mut scratch = [0u8; quorum::SCRATCH_BYTES];
     let checked = quorum::check(n, k, quorums, &mut scratch);
     table::print_answer(checked);
 }

@@ -85,7 +85,7 @@ fn rounds(record: Record) -> Tally {
 }
 
 fn main() {
-    let mut scratch = [0u8; 4096];
+    let mut scratch = [0u8; quorum::SCRATCH_BYTES];
     let opened = machine::open(12, 200, &[4095u16], &mut scratch);
     let t = rounds(opened.record);
     number(b"calls=", ROUNDS * CALLS_A_ROUND);

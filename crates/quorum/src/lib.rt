@@ -27,6 +27,9 @@ pub const MOST_UNITS: usize = 200;
 
 pub const MOST_QUORUMS: usize = 64;
 
+// The bytes of scratch that the check wants.
+pub const SCRATCH_BYTES: usize = 4096;
+
 // What the check answers. The family is the first `size` places of its array.
 #[repr(C)]
 pub struct Checked {
@@ -126,13 +129,13 @@ pub fn check(n: usize, k: usize, quorums: &[u16], scratch: &mut [u8]) -> Checked
 {
     let broken = limits::broken_limit(n, k, quorums);
     if broken != refusals::NO_REFUSAL {
-        scratch::clean(scratch, scratch::SCRATCH_BYTES);
+        scratch::clean(scratch, SCRATCH_BYTES);
         return refused(broken);
     }
-    if scratch.len() < scratch::SCRATCH_BYTES {
+    if scratch.len() < SCRATCH_BYTES {
         return refused(refusals::SHORT_SCRATCH);
     }
     let checked = judge(n, k, quorums, scratch);
-    scratch::clean(scratch, scratch::SCRATCH_BYTES);
+    scratch::clean(scratch, SCRATCH_BYTES);
     checked
 }

@@ -2,8 +2,6 @@
 ghost use mathlib.Core.Path.{_≡_};
 ghost use Rattle.quorum.specs.Scratch.{zeroed};
 
-pub(crate) const SCRATCH_BYTES: usize = 4096;
-
 // Zeros in the first `bytes` bytes; a shorter scratch stays as it is.
 pub(crate) fn clean(scratch: &mut [u8], bytes: usize)
     ensures { λ _. ⌜ now (scratch .exit) ≡ zeroed bytes (now (scratch .entry)) ⌝ }

@@ -15,7 +15,7 @@ use records::UP_PLACES;
 
 // A fresh record, made without a line of its own.
 pub(crate) fn fresh(n: usize, k: usize, quorums: &[u16]) -> Record {
-    let mut scratch = [0u8; 4096];
+    let mut scratch = [0u8; quorum::SCRATCH_BYTES];
     let o = machine::open(n, k, quorums, &mut scratch);
     o.record
 }

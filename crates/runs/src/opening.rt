@@ -17,13 +17,13 @@ fn open_on(scratch: &mut [u8], name: &[u8], n: usize, k: usize, quorums: &[u16])
 
 // On just enough scratch.
 fn open(name: &[u8], n: usize, k: usize, quorums: &[u16]) -> Record {
-    let mut scratch = [0u8; 4096];
+    let mut scratch = [0u8; quorum::SCRATCH_BYTES];
     open_on(&mut scratch, name, n, k, quorums)
 }
 
 // On one byte too few.
 fn open_short(name: &[u8], n: usize, k: usize, quorums: &[u16]) {
-    let mut scratch = [0u8; 4095];
+    let mut scratch = [0u8; quorum::SCRATCH_BYTES - 1];
     open_on(&mut scratch, name, n, k, quorums);
 }
 
