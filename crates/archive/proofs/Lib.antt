@@ -1,0 +1,5 @@
+pub mod LinesLeft
+pub mod StepsLeft
+pub mod Head
+pub mod OwnPage
+pub mod OwnStepsExamples
