@@ -3,3 +3,7 @@ pub mod StepsLeft
 pub mod Head
 pub mod OwnPage
 pub mod OwnStepsExamples
+pub mod Tallying
+pub mod AddingUp
+pub mod PrintedTallies
+pub mod PageTally
