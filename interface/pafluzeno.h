@@ -1,6 +1,7 @@
-/* The calls of a station: the check of a quorum table, ready-made tables, and the arbiter of the station's own record.
+/* The calls of a station: the check of a quorum table, ready-made tables, the arbiter of the station's own record, and the journal.
  * They stand in target/staticlib/libpafluzeno.a, which `rt staticlib pafluzeno` proves and writes (x86-64), and need no other library.
  *
+ * A table, a key and a text are lent to be read; scratch, a buffer and an arbiter's record are lent to be written; no call keeps any of them.
  * Every call ends and answers for all numbers and all contents of what it is lent, good or bad. What the caller owes is C's own: a pointer
  * is not null, also where its length is 0; it leads to as many elements as its length says; what a call may write overlaps nothing else that
  * the same call is lent; and one record is lent to one call at a time. */
@@ -20,9 +21,10 @@ extern "C" {
 #define PAFLUZENO_MOST_UNITS 200
 #define PAFLUZENO_MOST_QUORUMS 64
 #define PAFLUZENO_SCRATCH_BYTES 4096
+#define PAFLUZENO_PAGE_ROOM 196617 /* the bytes of a buffer that is long enough for every page of the journal */
 
-/* The refusals, by name and number. The calls below give 1 to 8, 10, 14 and 16 to 19; the others are the journal's and the machine's, which
- * a journal page names by number. */
+/* The refusals, by name and number. The calls below give 1 to 8, 10 and 14 to 19; the others, 9 and 11 to 13, are the machine's, which a
+ * journal's record names by number. */
 enum pafluzeno_refusal {
     PAFLUZENO_NO_REFUSAL = 0,
     PAFLUZENO_BAD_STATIONS = 1,      /* n outside 1..12 */
@@ -111,6 +113,97 @@ struct pafluzeno_reply {
 /* The arbiter's part of one message on its lent record: refusals 2, 19, 8, 10 (REQUEST only), 14 (REQUEST only), in that order. A refusal
  * grants nobody and leaves the record as it was. */
 struct pafluzeno_reply pafluzeno_tell(struct pafluzeno_arbiter *arbiter, struct pafluzeno_arrival message);
+
+/* The journal. Its text is lines key=value, each with a line feed; a number is 0 to 65535 without leading zeros. The only refusals of its
+ * calls are 15 and 16. */
+
+/* A part of a lent text: where it begins, and its bytes. It is never outside the text, and the caller's own bytes are its content. */
+struct pafluzeno_part {
+    size_t place;
+    size_t len;
+};
+
+/* The value of the line of that key that the text begins with. For the key `do` it is request, up, down or release, for every other key a
+ * number. Refusal 15 is the empty part at place 0, and no value is empty: the text does not begin with a whole line of that key with an
+ * allowed value, or the key holds `=` or a line feed. The next line begins at place + len + 1. */
+struct pafluzeno_part pafluzeno_read_line(const uint8_t *key, size_t key_len, const uint8_t *text, size_t text_len);
+
+/* The words of `do`, by number. */
+enum pafluzeno_do {
+    PAFLUZENO_DO_REQUEST = 0,
+    PAFLUZENO_DO_UP = 1,
+    PAFLUZENO_DO_DOWN = 2,
+    PAFLUZENO_DO_RELEASE = 3
+};
+
+/* A record: what was done, and what was answered. In a text it is the lines do, station, with, units, refused, entered and left, 58 to 87
+ * bytes. `with` is the quorum of a request, the arbiter of up and down, 0 in a release; `units` is 0 except in a request. Anything else is
+ * not of the form. */
+struct pafluzeno_record {
+    uint16_t what; /* one of enum pafluzeno_do */
+    uint16_t station;
+    uint16_t with;
+    uint16_t units;
+    uint16_t refused;
+    uint16_t entered;
+    uint16_t left;
+};
+
+/* What the reader of a record answers: the refusal, the record, and the bytes that it takes up at the beginning of the text. */
+struct pafluzeno_read {
+    uint8_t refusal;
+    struct pafluzeno_record record;
+    size_t taken;
+};
+
+/* The record that the text begins with, whatever stands behind it: refusal 15. Then the record is a request of zeros, and all of the text
+ * counts as taken, so that a loop that reads on behind what was taken comes to an end. */
+struct pafluzeno_read pafluzeno_read_record(const uint8_t *text, size_t text_len);
+
+/* The text after that record, as the part to be read next: it begins where the record ends and goes on to the end of the text. Where the
+ * reader of a record answers 15, it is the empty part at the end of the text; but it is empty too behind the last record of a good text, and
+ * only the reader tells which. */
+struct pafluzeno_part pafluzeno_after_record(const uint8_t *text, size_t text_len);
+
+/* What the writer of a record answers: the refusal and the place after the record, on a refusal the place that it was given. */
+struct pafluzeno_written {
+    uint8_t refusal;
+    size_t place;
+};
+
+/* Writes the record into the buffer from place `at` on: refusals 15 (the record is not of the form), 16 (no room for all of it from there
+ * on, also where the place is at the buffer's end or past it), in that order. All other bytes stay as they are, on a refusal all do. */
+struct pafluzeno_written pafluzeno_write_record(uint8_t *out, size_t out_len, size_t at, struct pafluzeno_record record);
+
+/* A sum, low + high * 2^64: wide enough for every text. Below 2^53 bytes of text high is 0, since each record has more than 32 bytes and
+ * adds less than 2^16. */
+struct pafluzeno_sum {
+    uint64_t low;
+    uint64_t high;
+};
+
+/* What adding up answers: the refusal, the number of records, and the sums of their `entered` and of their `left`. */
+struct pafluzeno_tally {
+    uint8_t refusal;
+    size_t records;
+    struct pafluzeno_sum entered;
+    struct pafluzeno_sum left;
+};
+
+/* Adds up a text that is records and nothing else, to its last byte; the empty text is no records. Otherwise it is refusal 15, with no
+ * records and both sums 0. */
+struct pafluzeno_tally pafluzeno_tally(const uint8_t *text, size_t text_len);
+
+/* What the page answers: the refusal, and the bytes of the page, 0 on a refusal. */
+struct pafluzeno_printed {
+    uint8_t refusal;
+    size_t len;
+};
+
+/* The page that the program `journal` prints for that text as its input, written into the front of the buffer: refusal 16 where the buffer
+ * is shorter than PAFLUZENO_PAGE_ROOM, however short the page. Bytes beyond the page stay as they are, on a refusal all do. A text that is
+ * not of the form, or longer than 65,536 bytes, is no refusal here: its page is `input=15` and a line feed. */
+struct pafluzeno_printed pafluzeno_page(const uint8_t *text, size_t text_len, uint8_t *out, size_t out_len);
 
 #ifdef __cplusplus
 }

@@ -1,5 +1,5 @@
-/* Every refusal that the station's calls give, made to happen from C, and one answer of each call; one line each. A refusal that is not the
- * one expected, or that changes what it was lent, ends the program. */
+/* Every refusal that the calls on tables and on the arbiter give, made to happen from C, and one answer of each call; one line each. A refusal
+ * that is not the one expected, or that changes what it was lent, ends the program. The journal's calls are in journal.c. */
 #include <stdio.h>
 #include <stdlib.h>
 #include <string.h>

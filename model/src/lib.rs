@@ -4,6 +4,7 @@
 //! A refusal is document 01's number, and 0 where nothing is refused.
 
 pub mod arbiter;
+pub mod calls;
 pub mod examples;
 pub mod machine;
 pub mod page;

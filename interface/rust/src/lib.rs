@@ -1,8 +1,9 @@
-//! The station's calls of `libpafluzeno.a`, safe to call: the check of a quorum table, ready-made tables, and the arbiter of a station's own
-//! record. What each answers is proved; this crate only passes slices and references on.
+//! The station's calls of `libpafluzeno.a`, safe to call: the check of a quorum table, ready-made tables, the arbiter of a station's own
+//! record, and the journal. What each answers is proved; this crate only passes slices and references on.
 //!
 //! ```
 //! use pafluzeno::{check, release, request, uniform, Arbiter, Refusal, MOST_QUORUMS, SCRATCH_BYTES};
+//! use pafluzeno::{page, read_line, read_record, tally, write_record, Do, Record, PAGE_ROOM};
 //!
 //! // five stations, two positions: a table, and whether it may be used
 //! let mut table = [0; MOST_QUORUMS];
@@ -20,14 +21,38 @@
 //! assert_eq!(request(&mut arbiter, 2, 3, 2)?, 1 << 3);
 //! assert_eq!(request(&mut arbiter, 2, 1, 1)?, 0);
 //! assert_eq!(release(&mut arbiter, 2, 3)?, 1 << 1);
+//!
+//! // the journal: each record is written behind the one before, and read from the text after it
+//! let asked = Record { what: Do::Request.number(), station: 3, units: 2, ..Record::default() };
+//! let given = Record { what: Do::Down.number(), station: 3, with: 4, entered: 2, ..Record::default() };
+//! let mut journal = [0; 200];
+//! let at = write_record(&mut journal, 0, asked)?;
+//! let end = write_record(&mut journal, at, given)?;
+//! let text = &journal[..end];
+//! let (first, rest) = read_record(text)?;
+//! assert_eq!(first, asked);
+//! assert_eq!(read_line(b"do", rest)?, b"down");
+//! assert_eq!(read_record(rest)?, (given, &text[end..]));
+//! assert_eq!(tally(text)?.entered, 2);
+//! assert_eq!(tally(&text[1..]), Err(Refusal::BadForm));
+//!
+//! // what the program `journal` prints for a text
+//! let mut out = vec![0; PAGE_ROOM];
+//! let len = page(b"stations=1\nunits=1\nquorums=1\nmembers=1\n", &mut out)?;
+//! assert!(out[..len].ends_with(b"table=0\nwidth=0\neven=1\n"));
 //! # Ok::<(), Refusal>(())
 //! ```
 #![no_std]
 
+#[doc(hidden)]
+pub mod header;
+mod journal;
 mod raw;
 mod refusal;
 
-pub use raw::{Arbiter, Entry};
+pub use journal::{after_record, page, read_line, read_record, tally, write_record};
+pub use journal::{Do, Tally, PAGE_ROOM};
+pub use raw::{Arbiter, Entry, Record};
 pub use refusal::Refusal;
 
 pub const MOST_STATIONS: usize = raw::MOST_STATIONS;

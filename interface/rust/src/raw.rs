@@ -49,6 +49,67 @@ pub struct Reply {
     pub granted: u16,
 }
 
+/// A part of a lent text: where it begins, and its bytes.
+#[derive(Clone, Copy, PartialEq, Eq, Debug)]
+#[repr(C)]
+pub struct Part {
+    pub place: usize,
+    pub len: usize,
+}
+
+/// A record of the journal. `what` is the number of one of the words of `do`; any other is not of the form.
+#[derive(Clone, Copy, PartialEq, Eq, Debug, Default)]
+#[repr(C)]
+pub struct Record {
+    pub what: u16,
+    pub station: u16,
+    /// The quorum of a request, the arbiter of up and down, 0 in a release.
+    pub with: u16,
+    /// 0 except in a request.
+    pub units: u16,
+    pub refused: u16,
+    pub entered: u16,
+    pub left: u16,
+}
+
+#[derive(Clone, Copy, PartialEq, Eq, Debug)]
+#[repr(C)]
+pub struct Read {
+    pub refusal: u8,
+    pub record: Record,
+    pub taken: usize,
+}
+
+#[derive(Clone, Copy, PartialEq, Eq, Debug)]
+#[repr(C)]
+pub struct Written {
+    pub refusal: u8,
+    pub place: usize,
+}
+
+#[derive(Clone, Copy, PartialEq, Eq, Debug)]
+#[repr(C)]
+pub struct Sum {
+    pub low: u64,
+    pub high: u64,
+}
+
+#[derive(Clone, Copy, PartialEq, Eq, Debug)]
+#[repr(C)]
+pub struct Tallied {
+    pub refusal: u8,
+    pub records: usize,
+    pub entered: Sum,
+    pub left: Sum,
+}
+
+#[derive(Clone, Copy, PartialEq, Eq, Debug)]
+#[repr(C)]
+pub struct Printed {
+    pub refusal: u8,
+    pub len: usize,
+}
+
 extern "C" {
     pub fn pafluzeno_check(
         n: usize,
@@ -62,4 +123,25 @@ extern "C" {
     pub fn pafluzeno_uniform(n: usize, k: usize, out: *mut u16, out_len: usize) -> Made;
     pub fn pafluzeno_cube(a: usize, k: usize, out: *mut u16, out_len: usize) -> Made;
     pub fn pafluzeno_tell(arbiter: &mut Arbiter, message: Arrival) -> Reply;
+    pub fn pafluzeno_read_line(
+        key: *const u8,
+        key_len: usize,
+        text: *const u8,
+        text_len: usize,
+    ) -> Part;
+    pub fn pafluzeno_read_record(text: *const u8, text_len: usize) -> Read;
+    pub fn pafluzeno_after_record(text: *const u8, text_len: usize) -> Part;
+    pub fn pafluzeno_write_record(
+        out: *mut u8,
+        out_len: usize,
+        at: usize,
+        record: Record,
+    ) -> Written;
+    pub fn pafluzeno_tally(text: *const u8, text_len: usize) -> Tallied;
+    pub fn pafluzeno_page(
+        text: *const u8,
+        text_len: usize,
+        out: *mut u8,
+        out_len: usize,
+    ) -> Printed;
 }
