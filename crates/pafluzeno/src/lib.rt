@@ -12,6 +12,16 @@ ghost use Rattle.tables.specs.Made.{said as madeSays, answer as making, written
 ghost use Rattle.tables.specs.Singleton.{singletonTable, singletonRefusal};
 ghost use Rattle.tables.specs.Uniform.{uniformTable, uniformRefusal};
 ghost use Rattle.pafluzeno.specs.Arriving.{upwardOf};
+
+mod journal;
+
+pub use journal::Part;
+pub use journal::pafluzeno_after_record;
+pub use journal::pafluzeno_page;
+pub use journal::pafluzeno_read_line;
+pub use journal::pafluzeno_read_record;
+pub use journal::pafluzeno_tally;
+pub use journal::pafluzeno_write_record;
 use machine::Incoming;
 use machine::Reply;
 use machine::Settled;
