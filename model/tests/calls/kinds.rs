@@ -1,5 +1,9 @@
 //! Records as numbers and as texts: of the form, not of the form, and damaged.
 
+use crate::texts::damaged::{
+    Form::{Bad, Either, Good},
+    Kind,
+};
 use model::calls::Numbers;
 use model::rng::Rng;
 use model::text::WORDS;
@@ -141,19 +145,6 @@ fn word(rng: &mut Rng) -> Vec<u8> {
     lines[0] = format!("do={}", rng.pick(&wrong));
     behind(rng, joined(&lines))
 }
-
-/// What the model must make of every text of a kind.
-#[derive(Clone, Copy, PartialEq, Eq, Debug)]
-pub enum Form {
-    Good,
-    Bad,
-    Either,
-}
-
-use Form::{Bad, Either, Good};
-
-/// A kind's name, what its texts are, and its generator.
-pub type Kind = (&'static str, Form, fn(&mut Rng) -> Vec<u8>);
 
 pub const KINDS: [Kind; 29] = [
     ("good", Good, |rng| text(good(rng))),

@@ -1,7 +1,8 @@
 //! Reading records, and the text after each.
 
 use super::compare::{self, Met};
-use super::kinds::{self, Form, KINDS};
+use super::kinds::{self, KINDS};
+use crate::texts::damaged::Form;
 use model::rng::Rng;
 use model::text::WORDS;
 use pafluzeno::{read_record, Do};
