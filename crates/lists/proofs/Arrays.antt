@@ -4,12 +4,12 @@ use mathlib.Core.Bool.{Bool, true, false, cond}
 use mathlib.Core.List.{List}
 use mathlib.Core.Logic.{by-cases}
 use mathlib.Core.Path.{_≡_, refl, ap, fun-ext}
-use Prim.Native.Nat.{ℕ, zero, suc, _≤_, _<_}
+use Prim.Native.Nat.{ℕ, zero, suc, _<_}
 use native.Mathlib.Decide.{ℕ-discrete}
 use lib.Dec.{ltb}
 use lib.ListN.{length, getD, set, replicate}
 use lib.Seq.{getD-set-same, getD-set-other}
-use borrow.Author.Tests.{lt-ltb, le-ltb}
+use borrow.Author.Tests.{lt-ltb}
 use Rattle.lists.specs.At.{at}
 use Rattle.lists.specs.Search.{everyBelow}
 use Rattle.lists.specs.Shown.{shown}
@@ -20,10 +20,6 @@ module _ {A B : Type 0} (n : ℕ) (none : B) (f : A → B) (d : A) where
   pub shown-in : (xs : List A) (i : ℕ) → i < n → shown n none f d xs i ≡ f (getD xs i d)
   unfolding shown
   shown-in xs i h = rw (lt-ltb i n h)
-
-  pub shown-out : (xs : List A) (i : ℕ) → n ≤ i → shown n none f d xs i ≡ none
-  unfolding shown
-  shown-out xs i h = rw (le-ltb i n h)
 
   shown-elsewhere : (xs : List A) (a : ℕ) (x : A) (i : ℕ) → (i ≡ a → ⊥) → shown n none f d (set xs a x) i ≡ shown n none f d xs i
   unfolding shown

@@ -16,7 +16,7 @@ use Rattle.plain.specs.State.{Arbiter as PlainArbiter}
 use Rattle.plain.specs.declared.Entry.{Entry}
 use Rattle.plain.specs.declared.Message.{Message}
 use Rattle.records.specs.View.{noEntry}
-use Rattle.machine.specs.Lent.{messageOf, badUnits, isGranted, grantedSet, turnedAway, delivering, lending}
+use Rattle.machine.specs.Lent.{sentUp, badUnits, isGranted, grantedSet, turnedAway, delivering, lending}
 use Rattle.machine.specs.declared.Upward.{Upward}
 use Rattle.machine.specs.declared.Upward.the-variants.{Request, Release}
 
@@ -54,7 +54,7 @@ module _ (k s : ℕ) (m : Upward) (a : PlainArbiter) where
         unfolding lending
         lending-10 e = rw (stock, range, lt-leb mostStations s station, e)
 
-        pub lending-delivers : badUnits k m ≡ false → lending k s m a ≡ delivering k s (messageOf m) a
+        pub lending-delivers : badUnits k m ≡ false → lending k s m a ≡ delivering k s (sentUp m) a
         unfolding lending
         lending-delivers e = rw (stock, range, lt-leb mostStations s station, e)
 
@@ -69,7 +69,7 @@ module _ (k s : ℕ) (m : Message) (a : PlainArbiter) where
   delivering-done e = rw e
 
 -- a message that passes 10 may go up
-pub units-go : (k : ℕ) (m : Upward) → badUnits k m ≡ false → goesUp k (messageOf m) ≡ true
+pub units-go : (k : ℕ) (m : Upward) → badUnits k m ≡ false → goesUp k (sentUp m) ≡ true
 unfolding goesUp
 units-go k (Request h) e = not-false (upTo k h) e
 units-go k Release e = refl

@@ -20,9 +20,9 @@ use Rattle.machine.specs.declared.Upward.{Upward}
 use Rattle.machine.specs.declared.Upward.the-variants.{Request as UpRequest, Release as UpRelease}
 
 -- the message that a station sends up
-abbrev pub messageOf : Upward → Message
-messageOf (UpRequest h) = Request h
-messageOf UpRelease = Release
+abbrev pub sentUp : Upward → Message
+sentUp (UpRequest h) = Request h
+sentUp UpRelease = Release
 
 -- "10 (REQUEST only)": units outside 1..k
 abbrev pub badUnits : ℕ → Upward → Bool
@@ -64,7 +64,7 @@ lending k s m a =
     (cond (not (arbiterIn mostStations k a)) (turnedAway a 19)
     (cond (leb mostStations s) (turnedAway a 8)
     (cond (badUnits k m) (turnedAway a 10)
-    (delivering k s (messageOf m) a))))
+    (delivering k s (sentUp m) a))))
 
 -- what the code's answer and the record that it leaves say
 unfoldable pub lentOf : Reply → Arbiter → Lending

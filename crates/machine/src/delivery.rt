@@ -2,13 +2,11 @@
 ghost use mathlib.Core.Bool.{true, false};
 ghost use mathlib.Core.Path.{_≡_};
 ghost use Prim.Native.Nat.{ℕ, _≤_, _<_};
-ghost use lib.ListN.{getD};
-ghost use Rattle.lists.specs.Cut.{cut};
 ghost use Rattle.plain.specs.Arbiter.{arrived, served};
 ghost use Rattle.plain.specs.InRange.{goesUp, arbiterIn};
 ghost use Rattle.plain.specs.Lanes.{linePlaces, passes};
 ghost use Rattle.quorum.specs.Limits.{mostStations};
-ghost use Rattle.records.specs.View.{noEntry, arbiterOf};
+ghost use Rattle.records.specs.View.{arbiterOf};
 ghost use Rattle.machine.specs.Ready.{Granted};
 use crate::service;
 use plain::Entry;
@@ -16,7 +14,7 @@ use plain::Message;
 use records::Arbiter;
 use records::LINE_PLACES;
 
-pub(crate) struct Arrival {
+pub(crate) struct Arrived {
     pub full: bool,
     pub arbiter: Arbiter,
 }
@@ -30,7 +28,7 @@ pub(crate) struct Delivery {
 }
 
 // REQUEST joins the line, unless that is full; RELEASE clears the station's units.
-fn arrive(a: Arbiter, s: usize, m: Message) -> Arrival
+fn arrive(a: Arbiter, s: usize, m: Message) -> Arrived
     requires { ⌜ (s < mostStations) × (a .len ≤ linePlaces) ⌝ }
     ensures full { λ r. ⌜ ((n : ℕ) → r .full ≡ passes linePlaces (arrived m s (arbiterOf n a) .line)) ⌝ }
     ensures arbiter { λ r. ⌜ (r .full ≡ false → (n : ℕ) → s < n → arbiterOf n (r .arbiter) ≡ arrived m s (arbiterOf n a)) ⌝ }
@@ -40,7 +38,7 @@ fn arrive(a: Arbiter, s: usize, m: Message) -> Arrival
             let len = a.len;
             let at = len as usize;
             if LINE_PLACES <= at {
-                return Arrival {
+                return Arrived {
                     full: true,
                     arbiter: a,
                 };
@@ -52,7 +50,7 @@ fn arrive(a: Arbiter, s: usize, m: Message) -> Arrival
             };
             next.line[at] = e;
             next.len = len + 1;
-            Arrival {
+            Arrived {
                 full: false,
                 arbiter: next,
             }
@@ -60,12 +58,12 @@ fn arrive(a: Arbiter, s: usize, m: Message) -> Arrival
         Message::Release => {
             let mut next = a;
             next.granted[s] = 0;
-            Arrival {
+            Arrived {
                 full: false,
                 arbiter: next,
             }
         }
-        Message::Grant => Arrival {
+        Message::Grant => Arrived {
             full: false,
             arbiter: a,
         },

@@ -3,7 +3,6 @@ ghost use mathlib.Core.Bool.{true};
 ghost use mathlib.Core.List.{List};
 ghost use mathlib.Core.Path.{_≡_};
 ghost use Prim.Native.Nat.{ℕ, _≤_, _<_, _^_};
-ghost use lib.ListN.{getD};
 ghost use Rattle.lists.specs.Cut.{cut};
 ghost use Rattle.plain.specs.Down.{onward as onwardOf, taken, takenAt, Taken, down};
 ghost use Rattle.quorum.specs.Family.{quorum as quorumOf};

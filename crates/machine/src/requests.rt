@@ -1,6 +1,6 @@
 // Request, on a record in range.
 ghost use mathlib.Core.Path.{_≡_};
-ghost use Prim.Native.Nat.{_≤_, _<_};
+ghost use Prim.Native.Nat.{_<_};
 ghost use Rattle.plain.specs.Request.{isIdle, request};
 ghost use Rattle.records.specs.View.{view};
 ghost use Rattle.machine.specs.Answers.{answerOf};

@@ -1,13 +1,11 @@
 // Grants go down the lanes from an arbiter.
 ghost use mathlib.Core.Bool.{false};
 ghost use mathlib.Core.Path.{_≡_};
-ghost use Prim.Native.Nat.{ℕ, _≤_, _<_};
-ghost use lib.ListN.{length};
+ghost use Prim.Native.Nat.{_<_};
 ghost use Rattle.lists.specs.Cut.{cut};
 ghost use Rattle.lists.specs.Search.{someBelow};
 ghost use Rattle.plain.specs.Lanes.{downPlaces, passes};
 ghost use Rattle.plain.specs.Up.{granting};
-ghost use Rattle.quorum.specs.Limits.{mostStations};
 ghost use Rattle.records.specs.View.{noEntry, lanesOf};
 ghost use Rattle.machine.specs.Ready.{Sends};
 use crate::lanes;

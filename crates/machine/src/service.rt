@@ -1,7 +1,7 @@
 // The line of an arbiter is served, strictly from its first entry on.
 ghost use mathlib.Core.Path.{_≡_};
 ghost use Prim.Native.Nat.{ℕ, _+_, _≤_, _<_};
-ghost use lib.ListN.{drop, getD};
+ghost use lib.ListN.{drop};
 ghost use Rattle.lists.specs.Counting.{total};
 ghost use Rattle.lists.specs.Cut.{cut};
 ghost use Rattle.plain.specs.Arbiter.{served};

@@ -7,9 +7,9 @@ ghost use Rattle.journal_text.specs.JournalRecords.{numbersOf, readOf, recordIn
 ghost use Rattle.journal_text.specs.Lines.{lineValue, linePlace};
 ghost use Rattle.journal_text.specs.Page.{printing, printedInto};
 use archive::Totals;
+use journal_text::JournalRecord;
 use journal_text::Printed;
 use journal_text::ReadRecord;
-use journal_text::Record;
 use journal_text::Written;
 
 // A part of a lent text: where it begins, and its bytes.
@@ -54,7 +54,7 @@ pub extern "C" fn pafluzeno_after_record(text: &[u8]) -> Part
 
 // A record, written into the rest of a buffer from a given place.
 #[no_mangle]
-pub extern "C" fn pafluzeno_write_record(out: &mut [u8], at: usize, r: Record) -> Written
+pub extern "C" fn pafluzeno_write_record(out: &mut [u8], at: usize, r: JournalRecord) -> Written
     ensures answer { λ w. ⌜ w ≡ writing (numbersOf r) (length (now (out .entry))) at ⌝ }
     ensures lent { λ _. ⌜ now (out .exit) ≡ writtenInto (numbersOf r) (now (out .entry)) at ⌝ }
 {

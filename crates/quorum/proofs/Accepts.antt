@@ -27,7 +27,7 @@ module _ (n k : ℕ) (table : List ℕ) where
   accepted-arbiter a =
       record {
         intersection = λ f numbers size. common-member n k table (a .limits) (a .common) f numbers (omega arith);
-        minimality = minimal table (a .plain);
+        minimality = minimal table (a .not-nested);
       }
 
   pub arbiter-accepted : brokenLimit n k table ≡ 0 → Arbiter n k table → Accepted n k table
@@ -36,7 +36,7 @@ module _ (n k : ℕ) (table : List ℕ) where
         limits = kept;
         common = not-true-false (lacksCommon n k table) (λ t.
             let w = lacks-iff n k table kept .0 t in w .none (arbiter .intersection (w .list) (w .numbers) (w .size)));
-        plain = minimal-nested table (arbiter .minimality);
+        not-nested = minimal-nested table (arbiter .minimality);
       }
 
 -- ---- the check
@@ -44,7 +44,7 @@ module _ (n k : ℕ) (table : List ℕ) where
 module _ (n k : ℕ) (table : List ℕ) (room : ℕ) where
   -- the tests in turn: a test that fails has its own refusal, which is not 0
   pub passed : refusal n k table room ≡ 0 → Accepted n k table × (scratchBytes ≤ room)
-  passed e = (record { limits = kept; common = common; plain = plain }, enough)
+  passed e = (record { limits = kept; common = common; not-nested = not-nested }, enough)
     where
       kept : brokenLimit n k table ≡ 0
       kept =
@@ -59,14 +59,14 @@ module _ (n k : ℕ) (table : List ℕ) (room : ℕ) where
       common : lacksCommon n k table ≡ false
       common = not-true-false (lacksCommon n k table) (λ t. omega (arith, refusal-six n k table room kept enough t))
 
-      plain : nested table ≡ false
-      plain =
+      not-nested : nested table ≡ false
+      not-nested =
           not-true-false (nested table) (λ (t : nested table ≡ true).
           let seven : refusal n k table room ≡ 7 = refusal-later n k table room kept enough common ∙ rw t in
           omega arith)
 
   pub passes : Accepted n k table → scratchBytes ≤ room → refusal n k table room ≡ 0
-  passes a enough = refusal-later n k table room (a .limits) enough (a .common) ∙ rw (a .plain)
+  passes a enough = refusal-later n k table room (a .limits) enough (a .common) ∙ rw (a .not-nested)
 
   -- the check refuses nothing exactly where the table keeps the limits, scratch is enough, and the table is a k-arbiter of RR-2523
   pub accepts-arbiters : (refusal n k table room ≡ 0) ↔ ((brokenLimit n k table ≡ 0) × (scratchBytes ≤ room) × Arbiter n k table)

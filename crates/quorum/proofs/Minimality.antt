@@ -14,7 +14,7 @@ use Rattle.lists.proofs.Searches.{any-at, any-found}
 use Rattle.lists.proofs.Tests.{clash, or-left, or-right, or-cases, not-true-false}
 use Rattle.stations.specs.Sets.{contains}
 use Rattle.stations.proofs.Members.{contains-members, members-contains}
-use Rattle.quorum.specs.Arbiter.{Within}
+use Rattle.quorum.specs.Arbiter.{LiesWithin}
 use Rattle.quorum.specs.Family.{quorum}
 use Rattle.quorum.specs.Nested.{nested, comparable}
 
@@ -83,11 +83,11 @@ some-nested (x ∷ table) (suc p) (suc q) a b d t =
     or-right (any (comparable x) table) (nested table) (some-nested table p q (omega arith) (omega arith) (λ e. d (ap suc e)) t)
 
 -- not nested: of two entries at different places neither lies within the other
-pub minimal : (table : List ℕ) → nested table ≡ false → (p q : ℕ) → p < length table → q < length table → (p ≡ q → ⊥) → Within table p q → ⊥
+pub minimal : (table : List ℕ) → nested table ≡ false → (p q : ℕ) → p < length table → q < length table → (p ≡ q → ⊥) → LiesWithin table p q → ⊥
 minimal table e p q a b d within =
     clash (some-nested table p q a b d (members-contains (quorum table q) (quorum table p) within)) e
 
-pub minimal-nested : (table : List ℕ) → ((p q : ℕ) → p < length table → q < length table → (p ≡ q → ⊥) → Within table p q → ⊥) → nested table ≡ false
+pub minimal-nested : (table : List ℕ) → ((p q : ℕ) → p < length table → q < length table → (p ≡ q → ⊥) → LiesWithin table p q → ⊥) → nested table ≡ false
 minimal-nested table h =
     not-true-false (nested table) (λ t.
     let x = nested-some table t in

@@ -11,4 +11,4 @@ use Rattle.quorum.specs.Width.{lacksCommon}
 pub record Accepted (n k : ℕ) (table : List ℕ) : Type 0 where
   pub limits : brokenLimit n k table ≡ 0
   pub common : lacksCommon n k table ≡ false
-  pub plain : nested table ≡ false
+  pub not-nested : nested table ≡ false

@@ -19,11 +19,11 @@ pub record Common (n : ℕ) (table : List ℕ) (f : List ℕ) : Type 0 where
   pub in-all : InAll table station f
 
 -- every member of the quorum p is a member of the quorum q
-abbrev pub Within : List ℕ → ℕ → ℕ → Type 0
-Within table p q = (i : ℕ) → member (quorum table p) i ≡ true → member (quorum table q) i ≡ true
+abbrev pub LiesWithin : List ℕ → ℕ → ℕ → Type 0
+LiesWithin table p q = (i : ℕ) → member (quorum table p) i ≡ true → member (quorum table q) i ≡ true
 
 -- Intersection: any k + 1 quorums, repeats allowed, have a common station.
 -- Minimality: of two entries at different places neither lies within the other.
 pub record Arbiter (n k : ℕ) (table : List ℕ) : Type 0 where
   pub intersection : (f : List ℕ) → Numbers (length table) f → length f ≡ k + 1 → Common n table f
-  pub minimality : (p q : ℕ) → p < length table → q < length table → (p ≡ q → ⊥) → Within table p q → ⊥
+  pub minimality : (p q : ℕ) → p < length table → q < length table → (p ≡ q → ⊥) → LiesWithin table p q → ⊥

@@ -78,7 +78,7 @@ fn lacks(k: usize, width: usize) -> bool
 }
 
 // The answer to a table that has its common members.
-fn answer_plain(n: usize, width: usize, quorums: &[u16]) -> Checked
+fn answer_nested_or_not(n: usize, width: usize, quorums: &[u16]) -> Checked
     requires { ⌜ width ≡ widthOf n (now quorums) ⌝ }
     ensures { λ r. ⌜ said r ≡ answerTo n (now (quorums .entry)) (cond (nested (now (quorums .entry))) 7 0) ⌝ }
 {
@@ -118,7 +118,7 @@ fn judge(n: usize, k: usize, quorums: &[u16], scratch: &mut [u8]) -> Checked
             family,
         };
     }
-    answer_plain(n, width, quorums)
+    answer_nested_or_not(n, width, quorums)
 }
 
 // Refusal, width, even and family of the table, for any numbers and slices. A lent scratch of 4,096

@@ -2,7 +2,6 @@
 ghost use mathlib.Core.Bool.{_&&_, true, false};
 ghost use mathlib.Core.Path.{_≡_};
 ghost use Prim.Native.Nat.{_≤_};
-ghost use Rattle.lists.specs.Search.{everyBelow};
 ghost use Rattle.plain.specs.Lanes.{upPlaces};
 ghost use Rattle.quorum.specs.Limits.{mostStations};
 ghost use Rattle.records.specs.Ranges.{goes, lanePlaces, laneIn, rowIn, lanesIn};

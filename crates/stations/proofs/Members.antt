@@ -4,13 +4,13 @@ use mathlib.Core.Bool.{Bool, true, false, _&&_, and-comm, and-self}
 use mathlib.Core.Logic.{_⊎_, inl, inr, ⊎-elim}
 use mathlib.Core.Path.{_≡_, refl, sym, ap, _∙_}
 use Prim.Native.Nat.{ℕ, zero, suc, _+_, _-_, _*_, _/_, _%_, _^_, _≤_, _<_, min}
-use native.Mathlib.Nat.{div-eq-of-lt, lt-of-lt-of-le, mod-eq-of-lt, div-lt-iff-lt-mul, div-one, zero-div, one-mul}
+use native.Mathlib.Nat.{div-eq-of-lt, lt-of-lt-of-le, mod-eq-of-lt, div-one, zero-div, one-mul}
 use native.Mathlib.Numerals.{add-one, one-add}
 use native.Mathlib.Omega.{arith}
 use lib.Arith.{bin-ind}
 use lib.Bits.{bitAnd, and-shr, and-mod, and-mask}
 use lib.Dec.{eqb, ltb}
-use lib.Pow.{pow-mono, pow-lt, pow-pos, ones-lt, ones-split, high, low, shr-shr}
+use lib.Pow.{pow-mono, pow-lt, ones-lt, ones-split, high, low, shr-shr}
 use borrow.Author.Tests.{eq-eqb, ne-eqb, eqb-true, ltb-true, ltb-false}
 use Rattle.lists.proofs.Tests.{known, clash, and-left, and-within}
 use Rattle.stations.specs.Member.{member}
@@ -131,13 +131,6 @@ members-contains a b h = eq-eqb (bitAnd a b) b (within-and a b h)
 pub member-below : (n q i : ℕ) → q < 2 ^ n → n ≤ i → member q i ≡ false
 unfolding member
 member-below n q i h g = rw (div-eq-of-lt (lt-of-lt-of-le h (pow-mono g)))
-
--- and a number that names only those is below 2^n
-pub below-members : (n q : ℕ) → ((i : ℕ) → n ≤ i → member q i ≡ false) → q < 2 ^ n
-below-members n q h =
-    let top : q / 2 ^ n ≡ 0 = member-none (q / 2 ^ n) (λ i. member-shift q n i ∙ h (n + i) (omega arith)) in
-    let small : q / 2 ^ n < 1 = omega arith in
-    rw (← one-mul (2 ^ n)) (div-lt-iff-lt-mul {x = q} {y = 1} (pow-pos n) .0 small)
 
 -- a member of a set of stations below n is below n
 pub member-station : (n q i : ℕ) → q < 2 ^ n → member q i ≡ true → i < n

@@ -19,7 +19,7 @@ use Rattle.stations.specs.Member.{member}
 use Rattle.stations.proofs.Built.{member-set, set-below}
 use Rattle.stations.proofs.Members.{member-zero}
 use Rattle.quorum.specs.Accepted.{Accepted}
-use Rattle.quorum.specs.Arbiter.{Common, Within}
+use Rattle.quorum.specs.Arbiter.{Common, LiesWithin}
 use Rattle.quorum.specs.Family.{quorum, Numbers}
 use Rattle.quorum.specs.Limits.{mostStations, mostUnits, upTo}
 use Rattle.quorum.proofs.Accepts.{arbiter-accepted}
@@ -115,7 +115,7 @@ module _ (a k : ℕ) (some : 0 < a) where
 
   -- ---- of two quorums neither lies within the other
 
-  pub cube-apart : (p q : ℕ) → p < length (cubeTable a k) → q < length (cubeTable a k) → (p ≡ q → ⊥) → Within (cubeTable a k) p q → ⊥
+  pub cube-apart : (p q : ℕ) → p < length (cubeTable a k) → q < length (cubeTable a k) → (p ≡ q → ⊥) → LiesWithin (cubeTable a k) p q → ⊥
   cube-apart p q hp hq differ within = differ (station-ext a some (k + 1) p q p-below q-below same)
     where
       p-below : p < cubeStations a k

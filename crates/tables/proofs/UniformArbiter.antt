@@ -16,7 +16,7 @@ use Rattle.stations.specs.Sets.{everyone, countBelow}
 use Rattle.stations.proofs.Counts.{count-and, count-everyone, count-none, count-fewer, count-le}
 use Rattle.stations.proofs.Members.{within-and}
 use Rattle.quorum.specs.Accepted.{Accepted}
-use Rattle.quorum.specs.Arbiter.{Common, Within}
+use Rattle.quorum.specs.Arbiter.{Common, LiesWithin}
 use Rattle.quorum.specs.Family.{quorum, commonWithin, commonPart, Numbers}
 use Rattle.quorum.specs.Limits.{mostStations, mostUnits, mostQuorums, upTo}
 use Rattle.quorum.proofs.Accepts.{arbiter-accepted}
@@ -69,7 +69,7 @@ module _ (n s : ℕ) where
       (common-or-empty n (setsOf n s) f)
 
   -- two places with sets of which one lies within the other are one place
-  pub sets-apart : (p q : ℕ) → p < length (setsOf n s) → q < length (setsOf n s) → (p ≡ q → ⊥) → Within (setsOf n s) p q → ⊥
+  pub sets-apart : (p q : ℕ) → p < length (setsOf n s) → q < length (setsOf n s) → (p ≡ q → ⊥) → LiesWithin (setsOf n s) p q → ⊥
   sets-apart p q hp hq differ within =
       by-cases (ℕ-discrete (bitAnd b a) b) (λ same. differ (one-place (sym inner ∙ same)))
       (λ less. omega (arith, count-fewer b a n (sets-hold n s q hq .0) less, ap (λ (x : ℕ). countBelow x n) inner, sets-hold n s p hp .1, sets-hold n s q hq .1))

@@ -51,8 +51,8 @@ returns c =
       c .before .before .before .before .before .before .before .before .fill .ensures .1,
     )
 
-answer-plain-requires : tie.Need-answer-plain-requires
-answer-plain-requires c κs =
+answer-nested-or-not-requires : tie.Need-answer-nested-or-not-requires
+answer-nested-or-not-requires c κs =
     let start = c .before .before .before .before .before .before .before .before .before .before in
     let fill = c .before .before .before .before .before .before .fill in
     width-found (start .args .n) (start .args .k) (start .args .quorums .now) (length (start .args .scratch .now)) (start .pre .0) (start .pre .1) (fill .last .1 .1 .0) (fill .ensures .0)
@@ -66,7 +66,7 @@ returns-2 c =
     let start = c .before .before .before .before .before .before .before .before .before .before .before in
     let fill = c .before .before .before .before .before .before .before .fill in (
       seven-or-none (start .args .n) (start .args .k) (start .args .quorums .now) (length (start .args .scratch .now)) (start .pre .0) (start .pre .1) (fill .last .1 .1 .0) (fill .ensures .0)
-          (c .before .before .before .width-of .result) (c .before .before .before .width-of .ensures) (sym (c .before .before .lacks .ensures) ∙ c .before .if1 .left) (said (c .answer-plain .result)) (c .answer-plain .ensures),
+          (c .before .before .before .width-of .result) (c .before .before .before .width-of .ensures) (sym (c .before .before .lacks .ensures) ∙ c .before .if1 .left) (said (c .answer-nested-or-not .result)) (c .answer-nested-or-not .ensures),
       fill .ensures .1,
     )
 
@@ -80,6 +80,6 @@ judge-spec =
     first-family-requires
     same-length
     returns
-    answer-plain-requires
+    answer-nested-or-not-requires
     same-length-2
     returns-2)

@@ -9,7 +9,7 @@ use Rattle.quorum.specs.Limits.{mostStations, mostUnits, upTo}
 use Rattle.quorum.proofs.LimitLaws.{up-to}
 use Rattle.plain.specs.InRange.{goesUp, arbiterIn}
 use Rattle.records.specs.View.{arbiterOf}
-use Rattle.machine.specs.Lent.{badUnits, delivering, messageOf}
+use Rattle.machine.specs.Lent.{badUnits, delivering, sentUp}
 use Rattle.machine.specs.declared.Upward.{Upward}
 use Rattle.machine.specs.declared.Upward.the-variants.{Release as UpRelease}
 use Rattle.machine.proofs.LendingArbiter.{lending-2, lending-19, lending-8, lending-10, lending-delivers, units-go}
@@ -94,7 +94,7 @@ deliver-lent-requires c κs =
     record {
       range = range e;
       station = u .before .before .before .before .if3 .left;
-      goes = ap (λ (m : Upward). goesUp (start u .args .i .stock) (messageOf m)) (sym (u .before .before .m .given .1)) ∙ units-go (start u .args .i .stock) (start u .args .i .message) (units u ∙ c .if4 .left);
+      goes = ap (λ (m : Upward). goesUp (start u .args .i .stock) (sentUp m)) (sym (u .before .before .m .given .1)) ∙ units-go (start u .args .i .stock) (start u .args .i .message) (units u ∙ c .if4 .left);
     }
 
 enum-told : tie.Need-enum-told
@@ -117,7 +117,7 @@ returns-5 c =
     let e = others u in
     let st = start u in
     let passed = lending-delivers (st .args .i .stock) (st .args .i .station) (st .args .i .message) (arbiterOf mostStations (st .args .a)) (stock (e .before .before)) (range e) (u .before .before .before .before .if3 .left) (units u ∙ f .if4 .left) in (
-      c .deliver-lent .ensures .0 ∙ sym (passed ∙ ap (λ (m : Upward). delivering (st .args .i .stock) (st .args .i .station) (messageOf m) (arbiterOf mostStations (st .args .a))) (u .before .before .m .given .1)),
+      c .deliver-lent .ensures .0 ∙ sym (passed ∙ ap (λ (m : Upward). delivering (st .args .i .stock) (st .args .i .station) (sentUp m) (arbiterOf mostStations (st .args .a))) (u .before .before .m .given .1)),
       c .deliver-lent .ensures .1,
     )
 
@@ -128,7 +128,7 @@ returns-6 c =
     let st = e .before .before .before .before in
     let is = t .enum-told .given .1 in
     let passed = lending-delivers (st .args .i .stock) (st .args .i .station) (st .args .i .message) (arbiterOf mostStations (st .args .a)) (stock (e .before .before)) (range e) (t .before .before .if3 .left) (ap (badUnits (st .args .i .stock)) is) in (
-      c .deliver-lent2 .ensures .0 ∙ sym (passed ∙ ap (λ (m : Upward). delivering (st .args .i .stock) (st .args .i .station) (messageOf m) (arbiterOf mostStations (st .args .a))) is),
+      c .deliver-lent2 .ensures .0 ∙ sym (passed ∙ ap (λ (m : Upward). delivering (st .args .i .stock) (st .args .i .station) (sentUp m) (arbiterOf mostStations (st .args .a))) is),
       c .deliver-lent2 .ensures .1,
     )
 
