@@ -1,3 +1,4 @@
 pub mod OwnSteps
 pub mod Tallies
 pub mod AddedUp
+pub mod Inner

@@ -3,7 +3,7 @@
 use mathlib.Core.Bool.{Bool, true, false, cond, _&&_, _||_, true≢false}
 use mathlib.Core.Logic.{_⊎_, inl, inr}
 use mathlib.Core.Path.{_≡_, refl, sym, ap, _∙_}
-use Prim.Native.Nat.{ℕ, suc, compare·suc-suc}
+use Prim.Native.Nat.{ℕ, suc, _≤_, compare·suc-suc}
 use lib.Dec.{isEq, eqb}
 
 pub known : (b : Bool) → (b ≡ true) ⊎ (b ≡ false)
@@ -51,6 +51,14 @@ or-none false b e = (refl, e)
 
 pub or-rest : (a b : Bool) → a ≡ false → (a || b) ≡ true → b ≡ true
 or-rest a b n e = rw n at e
+
+-- what holds of both holds of the one that is chosen
+pub either : {A : Type 0} (P : A → Type 0) (b : Bool) {x y : A} → P x → P y → P (cond b x y)
+either P true p q = p
+either P false p q = q
+
+pub capped : (most : ℕ) (b : Bool) {x y : ℕ} → x ≤ most → y ≤ most → cond b x y ≤ most
+capped most b p q = either (λ r. r ≤ most) b p q
 
 -- a refusal r or what follows it: 0 says that r was not given
 pub otherwise : (b : Bool) (r x : ℕ) → (r ≡ 0 → ⊥) → cond b r x ≡ 0 → (b ≡ false) × (x ≡ 0)

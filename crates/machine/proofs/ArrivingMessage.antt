@@ -24,7 +24,7 @@ use Rattle.plain.proofs.LanesInRange.{keeps-all, keeps-short}
 use Rattle.records.specs.View.{noEntry, arbiterOf}
 use Rattle.records.specs.declared.Arbiter.{Arbiter}
 use Rattle.records.proofs.Viewing.{granted-with}
-use Rattle.machine.specs.Ready.{Serves}
+use Rattle.machine.specs.Inner.Ready.{Serves}
 
 pub line-length : (n : ℕ) (a : Arbiter) → length (arbiterOf n a .line) ≡ a .len
 unfolding arbiterOf

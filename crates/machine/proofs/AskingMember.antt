@@ -25,7 +25,7 @@ use Rattle.records.specs.declared.Lane.{Lane}
 use Rattle.records.specs.declared.Lanes.{Lanes}
 use Rattle.records.specs.declared.Record.{Record}
 use Rattle.records.proofs.Viewing.{lane-length, quorum-at, phases-with}
-use Rattle.machine.specs.Ready.{Asks}
+use Rattle.machine.specs.Inner.Ready.{Asks}
 use Rattle.machine.proofs.Refusing.{Asked, request-14, request-done}
 
 -- a lane with one message more, and its limit

@@ -9,7 +9,7 @@ use Rattle.quorum.specs.Accepted.{Accepted}
 use Rattle.quorum.specs.Limits.{brokenLimit}
 use Rattle.quorum.specs.Scratch.{scratchBytes}
 use Rattle.quorum.specs.Width.{lacksCommon}
-use Rattle.quorum.proofs.Accepts.{passes}
+use Rattle.quorum.proofs.Promises.{passes}
 use Rattle.plain.specs.Exceeding.{exceeding}
 use Rattle.plain.specs.Run.{Call, run, Difference}
 use Rattle.plain.specs.State.{State, fresh}

@@ -19,7 +19,7 @@ use Rattle.records.specs.declared.Lanes.{Lanes}
 use Rattle.records.specs.declared.Record.{Record}
 use Rattle.records.specs.declared.Station.{Station}
 use Rattle.records.proofs.Viewing.{phases-with}
-use Rattle.machine.specs.Ready.{Receives}
+use Rattle.machine.specs.Inner.Ready.{Receives}
 use Rattle.machine.proofs.AskingMember.{lane-full, lane-room}
 use Rattle.machine.proofs.Refusing.{down-delivery, delivery-14, delivery-done}
 

@@ -10,7 +10,7 @@ use lib.ListN.{length, getD}
 use borrow.Author.Tests.{ltb-true}
 use Rattle.lists.proofs.Cuts.{length-cut}
 use Rattle.lists.proofs.Tests.{and-left}
-use Rattle.quorum.proofs.LimitLaws.{Limits, limits-kept}
+use Rattle.quorum.proofs.Promises.{Limits, limits-kept}
 use Rattle.plain.specs.InRange.{goesUp, goesDown, phaseIn, arbiterIn, inRange}
 use Rattle.plain.specs.Lanes.{upPlaces, downPlaces}
 use Rattle.plain.specs.declared.Message.{Message}
@@ -20,7 +20,7 @@ use Rattle.plain.proofs.Range.{ranged}
 use Rattle.records.specs.View.{noStation, noArbiter, arbiterOf, lanesOf, tableOf, view}
 use Rattle.records.specs.declared.Record.{Record}
 use Rattle.records.proofs.Viewing.{arbiters-at, phases-at}
-use Rattle.machine.specs.Ready.{Ready, Wishes}
+use Rattle.machine.specs.Inner.Ready.{Ready, Wishes}
 
 module _ (r : Record) where
   pub table-length : length (view r .table) ≡ r .quorums

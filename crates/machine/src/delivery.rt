@@ -7,7 +7,7 @@ ghost use Rattle.plain.specs.InRange.{goesUp, arbiterIn};
 ghost use Rattle.plain.specs.Lanes.{linePlaces, passes};
 ghost use Rattle.quorum.specs.Limits.{mostStations};
 ghost use Rattle.records.specs.View.{arbiterOf};
-ghost use Rattle.machine.specs.Ready.{Granted};
+ghost use Rattle.machine.specs.Inner.Ready.{Granted};
 use crate::service;
 use plain::Entry;
 use plain::Message;

@@ -9,7 +9,7 @@ ghost use Rattle.plain.specs.declared.Phase.the-variants.{Holding};
 ghost use Rattle.quorum.specs.Limits.{mostStations};
 ghost use Rattle.records.specs.View.{view, rowOf};
 ghost use Rattle.machine.specs.Answers.{answerOf};
-ghost use Rattle.machine.specs.Ready.{Ready};
+ghost use Rattle.machine.specs.Inner.Ready.{Ready};
 use crate::Answer;
 use crate::lanes;
 use plain::Message;

@@ -4,7 +4,7 @@ ghost use Prim.Native.Nat.{_<_};
 ghost use Rattle.plain.specs.Request.{isIdle, request};
 ghost use Rattle.records.specs.View.{view};
 ghost use Rattle.machine.specs.Answers.{answerOf};
-ghost use Rattle.machine.specs.Ready.{Ready, Asks};
+ghost use Rattle.machine.specs.Inner.Ready.{Ready, Asks};
 use crate::Answer;
 use crate::lanes;
 use plain::Message;

@@ -8,7 +8,7 @@ ghost use Rattle.plain.specs.Arbiter.{served};
 ghost use Rattle.plain.specs.Lanes.{linePlaces};
 ghost use Rattle.quorum.specs.Limits.{mostStations};
 ghost use Rattle.records.specs.View.{noEntry, grantedOf, arbiterOf};
-ghost use Rattle.machine.specs.Ready.{Serves};
+ghost use Rattle.machine.specs.Inner.Ready.{Serves};
 use plain::Entry;
 use records::Arbiter;
 use records::LINE_PLACES;

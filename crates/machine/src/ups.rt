@@ -4,7 +4,7 @@ ghost use Prim.Native.Nat.{_<_};
 ghost use Rattle.plain.specs.Up.{up};
 ghost use Rattle.records.specs.View.{view, lanesOf};
 ghost use Rattle.machine.specs.Answers.{answerOf};
-ghost use Rattle.machine.specs.Ready.{Ready, Takes};
+ghost use Rattle.machine.specs.Inner.Ready.{Ready, Takes};
 use crate::Answer;
 use crate::delivery;
 use crate::lanes;

@@ -16,7 +16,7 @@ use Rattle.stations.proofs.Lowest.{lowest-from}
 use Rattle.stations.proofs.Members.{member-below, member-station, some-member}
 use Rattle.quorum.specs.Family.{quorum}
 use Rattle.quorum.specs.Limits.{brokenLimit}
-use Rattle.quorum.proofs.LimitLaws.{Limits, limits-kept}
+use Rattle.quorum.proofs.Promises.{Limits, limits-kept}
 use Rattle.plain.specs.Down.{Taken, onward}
 
 -- m is the lowest member from i on of a quorum of n stations

@@ -16,7 +16,7 @@ use Rattle.quorum.specs.Arbiter.{InAll}
 use Rattle.quorum.specs.Family.{Numbers}
 use Rattle.quorum.specs.Limits.{upTo}
 use Rattle.quorum.specs.Width.{lacksCommon}
-use Rattle.quorum.proofs.CommonMember.{common-member}
+use Rattle.quorum.proofs.Promises.{common-member}
 use Rattle.plain.specs.InRange.{phaseIn}
 use Rattle.plain.specs.Release.{held}
 use Rattle.plain.specs.Run.{Call, run, after, Difference}

@@ -7,22 +7,16 @@ use mathlib.Core.Path.{_≡_, refl, sym, ap, _∙_}
 use Prim.Native.Nat.{ℕ, suc, _+_, _-_, _≤_, _<_}
 use native.Mathlib.Omega.{arith}
 use lib.ListN.{length}
-use borrow.Author.Tests.{eqb-true, le-leb}
+use borrow.Author.Tests.{le-leb}
 use Rattle.lists.proofs.Tests.{known, and-both}
 use Rattle.lists.proofs.Totals.{total-none}
 use Rattle.stations.specs.Member.{member}
-use Rattle.stations.specs.Sets.{everyone}
 use Rattle.quorum.specs.Arbiter.{InAll}
-use Rattle.quorum.specs.Family.{quorum, commonPart, Numbers, emptyWithin}
+use Rattle.quorum.specs.Family.{quorum, Numbers}
 use Rattle.quorum.specs.FirstFamily.{firstFamily}
 use Rattle.quorum.specs.Limits.{brokenLimit}
-use Rattle.quorum.specs.Width.{width, lacksCommon}
-use Rattle.quorum.proofs.CommonMember.{common-not-empty}
-use Rattle.quorum.proofs.Families.{First}
-use Rattle.quorum.proofs.Lacking.{lacks-width, first-family-is}
-use Rattle.quorum.proofs.LimitLaws.{limits-kept}
-use Rattle.quorum.proofs.Sorted.{family-numbers}
-use Rattle.quorum.proofs.Widths.{width-le-n}
+use Rattle.quorum.specs.Width.{lacksCommon}
+use Rattle.quorum.proofs.Promises.{limits-kept, LackingFamily, lacking-family}
 use Rattle.plain.specs.Exceeding.{collects, exceeds, exceeding}
 use Rattle.plain.specs.Run.{left, run, after, Difference}
 use Rattle.plain.specs.State.{State, fresh}
@@ -104,27 +98,17 @@ fresh-calm n k table kept =
     }
 
 module _ (n k : ℕ) (table : List ℕ) (kept : brokenLimit n k table ≡ 0) (lacks : lacksCommon n k table ≡ true) where
-  family : First (emptyWithin table (everyone n)) (length table) 0 (width n table) (firstFamily n table)
-  family = first-family-is n k table kept lacks
-
-  -- no station is in all its quorums
-  no-common : (j : ℕ) → j < n → InAll table j (firstFamily n table) → ⊥
-  no-common j l a =
-      common-not-empty n table (firstFamily n table) (record { station = j; below = l; in-all = a }) (eqb-true (commonPart n table (firstFamily n table)) 0 (family .holds))
-
   all-held : heldBy (after (fresh n k table) (exceeding n k table) .phase) (after (fresh n k table) (exceeding n k table) .n) ≡ k + 1
   unfolding exceeding fresh
-  all-held = go (firstFamily n table) refl
+  all-held = go (firstFamily n table) (lacking-family n k table kept lacks)
     where
-      go : (f : List ℕ) → firstFamily n table ≡ f
+      go : (f : List ℕ) → LackingFamily n k table f
           → heldBy (after (fresh n k table) (exceeds n table 0 (k + 1) f) .phase) (after (fresh n k table) (exceeds n table 0 (k + 1) f) .n) ≡ k + 1
-      go [] e = absurd (omega (arith, lacks-width n k table lacks .0, family .size, ap length e))
-      go (p ∷ f) e =
-          let size : suc (length f) ≡ width n table = sym (ap length e) ∙ family .size in
-          let small = width-le-n n table (limits-kept n k table kept .stations .0) in
+      go [] family = absurd (omega (arith, family .two))
+      go (p ∷ f) family =
           let held = all-taken f p 0 (k + 1) (fresh n k table) (λ j. 0) n table refl refl (fresh-calm n k table kept)
-          (λ j l. inl ((λ a. no-common j l (rw e a)), omega arith))
-          (rw e at (family-numbers (family .family))) (omega arith) (omega (arith, lacks-width n k table lacks .1)) in
+          (λ j l. inl ((λ a. family .none (record { station = j; below = l; in-all = a })), omega arith))
+          (family .numbers) (omega (arith, family .stations)) (omega (arith, family .few)) in
           omega (arith, held, total-none (λ s. 0) n (λ s l. refl))
 
   -- "for every table refused for lack of a common member the plain machine has a list that reaches k + 1": for every n, k and table that

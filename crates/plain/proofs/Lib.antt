@@ -7,6 +7,7 @@ pub mod Releasing
 pub mod Range
 pub mod Passed
 pub mod Calls
+pub mod CallBounds
 pub mod Runs
 pub mod LanesInRange
 pub mod ArbitersInRange
@@ -20,7 +21,6 @@ pub mod Visited
 pub mod Collected
 pub mod Exceeded
 pub mod HandMade
-pub mod Marked
 pub mod ServiceExamples
 pub mod StationExamples
 pub mod RefusalExamples

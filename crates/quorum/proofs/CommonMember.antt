@@ -19,8 +19,8 @@ use Rattle.stations.specs.Sets.{everyone}
 use Rattle.stations.proofs.Members.{some-member, member-station, member-everyone, everyone-and, member-zero}
 use Rattle.quorum.specs.Arbiter.{Common}
 use Rattle.quorum.specs.Family.{quorum, commonWithin, commonPart, Numbers}
+use Rattle.quorum.specs.Inner.Need.{Emptying}
 use Rattle.quorum.specs.Limits.{brokenLimit}
-use Rattle.quorum.specs.Need.{Emptying}
 use Rattle.quorum.specs.Width.{width, lacksCommon}
 use Rattle.quorum.proofs.CommonParts.{common-le, common-members, members-common}
 use Rattle.quorum.proofs.LimitLaws.{Limits, limits-kept}

@@ -13,7 +13,7 @@ use Rattle.lists.specs.Search.{any, firstOf}
 use Rattle.lists.proofs.Searches.{any-append, any-map, first-append-some, first-append-none, first-map}
 use Rattle.lists.proofs.Tests.{clash, known, or-right, or-left, or-rest}
 use Rattle.quorum.specs.Family.{Family, families}
-use Rattle.quorum.specs.FirstFamily.{Before}
+use Rattle.quorum.specs.Inner.Before.{Before}
 
 -- a family of later numbers is one of earlier ones
 pub family-earlier : {b a : ℕ} (c : ℕ) {f : List ℕ} → c ≤ a → Family b a f → Family b c f

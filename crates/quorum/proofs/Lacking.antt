@@ -15,8 +15,8 @@ use Rattle.stations.proofs.Members.{and-again}
 use Rattle.quorum.specs.Arbiter.{Common}
 use Rattle.quorum.specs.Family.{quorum, commonWithin, commonPart, emptyWithin, Numbers}
 use Rattle.quorum.specs.FirstFamily.{firstFamily}
+use Rattle.quorum.specs.Inner.Need.{Emptying}
 use Rattle.quorum.specs.Limits.{brokenLimit}
-use Rattle.quorum.specs.Need.{Emptying}
 use Rattle.quorum.specs.Width.{width, lacksCommon}
 use Rattle.quorum.proofs.CommonMember.{common-or-empty, common-not-empty, emptying-lacks}
 use Rattle.quorum.proofs.Families.{First}

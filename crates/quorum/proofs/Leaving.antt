@@ -12,7 +12,7 @@ use Rattle.lists.specs.Cut.{cut}
 use Rattle.lists.proofs.Cuts.{cut-push, cut-take}
 use Rattle.stations.specs.Member.{member}
 use Rattle.quorum.specs.Family.{quorum}
-use Rattle.quorum.specs.Need.{without}
+use Rattle.quorum.specs.Inner.Need.{without}
 
 -- each of them is a quorum of the table
 pub record Left (i : ℕ) (table : List ℕ) (p : ℕ) : Type 0 where

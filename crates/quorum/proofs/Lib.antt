@@ -1,18 +1,23 @@
-pub mod CommonParts
-pub mod Families
-pub mod Sorted
-pub mod Thinned
-pub mod Widths
-pub mod LimitLaws
-pub mod CommonMember
-pub mod Lacking
-pub mod Minimality
-pub mod Refusals
-pub mod Accepts
-pub mod Needing
-pub mod Leaving
-pub mod Lowering
-pub mod Evenness
-pub mod Cleaning
-pub mod Taking
-pub mod Judging
+-- What a reader looks for, and what the crates above may use; the other files are the reasons, and no other crate can name them.
+pub mod CheckAccepts
+pub mod WidthSmallest
+pub mod Promises
+mod CommonParts
+mod Families
+mod Sorted
+mod Thinned
+mod Widths
+mod LimitLaws
+mod CommonMember
+mod Lacking
+mod Minimality
+mod Refusals
+mod Accepts
+mod Needing
+mod Leaving
+mod Lowering
+mod Evenness
+mod Cleaning
+mod Taking
+mod Judging
+mod AnswerBounds

@@ -23,8 +23,8 @@ use Rattle.stations.specs.Sets.{everyone}
 use Rattle.stations.proofs.Members.{and-swap, and-again}
 use Rattle.quorum.specs.Family.{quorum, commonWithin, emptyWithin, families, Numbers}
 use Rattle.quorum.specs.FirstFamily.{firstFamily}
+use Rattle.quorum.specs.Inner.Need.{Emptying, Need, Needs, noNeed, lowering}
 use Rattle.quorum.specs.Limits.{mostStations}
-use Rattle.quorum.specs.Need.{Emptying, Need, Needs, noNeed, lowering}
 use Rattle.quorum.specs.Width.{width}
 use Rattle.quorum.proofs.Families.{first-family}
 use Rattle.quorum.proofs.Needing.{need-few, need-width}

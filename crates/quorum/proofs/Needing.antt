@@ -23,8 +23,8 @@ use Rattle.stations.proofs.Built.{and-under}
 use Rattle.stations.proofs.Counts.{count-le}
 use Rattle.stations.proofs.Members.{member-zero, member-and, and-swap}
 use Rattle.quorum.specs.Family.{quorum, commonWithin, Numbers}
+use Rattle.quorum.specs.Inner.Need.{Emptying, Need, noNeed, without, leastByte, oneMore, oneLess, sizeOf}
 use Rattle.quorum.specs.Limits.{mostStations}
-use Rattle.quorum.specs.Need.{Emptying, Need, noNeed, without, leastByte, oneMore, oneLess, sizeOf}
 use Rattle.quorum.specs.Width.{width}
 use Rattle.quorum.proofs.Leaving.{Left, left-at, left-has}
 use Rattle.quorum.proofs.Thinned.{with-quorum, thinned}

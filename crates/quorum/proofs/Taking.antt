@@ -14,8 +14,8 @@ use Rattle.lists.proofs.Cuts.{cut-push, length-cut}
 use Rattle.stations.specs.Sets.{everyone}
 use Rattle.quorum.specs.Family.{quorum}
 use Rattle.quorum.specs.FirstFamily.{firstFamily}
+use Rattle.quorum.specs.Inner.Need.{Needs, noNeed, lowering}
 use Rattle.quorum.specs.Limits.{mostStations}
-use Rattle.quorum.specs.Need.{Needs, noNeed, lowering}
 use Rattle.quorum.proofs.Lowering.{reached, one-less, lowering-first, lowering-length, lowering-takes, lowering-skips, lowering-end}
 
 pub record Taking (n : ℕ) (table bytes family : List ℕ) (size rest p : ℕ) : Type 0 where

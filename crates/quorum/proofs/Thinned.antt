@@ -12,7 +12,7 @@ use lib.ListN.{length}
 use Rattle.stations.specs.Sets.{countBelow}
 use Rattle.stations.proofs.Counts.{count-fewer}
 use Rattle.quorum.specs.Family.{quorum, commonWithin, Numbers}
-use Rattle.quorum.specs.Need.{Emptying}
+use Rattle.quorum.specs.Inner.Need.{Emptying}
 
 -- one quorum more
 unfoldable pub with-quorum : (table : List ℕ) (s p : ℕ) → p < length table → Emptying table (bitAnd s (quorum table p)) → Emptying table s

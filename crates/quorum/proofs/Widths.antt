@@ -16,7 +16,7 @@ use Rattle.stations.specs.Sets.{everyone}
 use Rattle.stations.proofs.Counts.{count-le}
 use Rattle.quorum.specs.Family.{commonWithin, emptyWithin, families}
 use Rattle.quorum.specs.FirstFamily.{firstFamily}
-use Rattle.quorum.specs.Need.{Emptying}
+use Rattle.quorum.specs.Inner.Need.{Emptying}
 use Rattle.quorum.specs.Width.{emptied, leastSize, width}
 use Rattle.quorum.proofs.Families.{First, first-family, any-family}
 use Rattle.quorum.proofs.Sorted.{family-numbers, family-length, sorted}

@@ -1,8 +1,8 @@
 pub mod Limits
 pub mod Family
 pub mod Width
+pub mod Smallest
 pub mod FirstFamily
-pub mod Need
 pub mod Nested
 pub mod Even
 pub mod Refusal
@@ -10,3 +10,4 @@ pub mod Scratch
 pub mod Answer
 pub mod Accepted
 pub mod Arbiter
+pub mod Inner

@@ -4,10 +4,10 @@ ghost use Prim.Native.Nat.{_≤_, _<_};
 ghost use lib.ListN.{length, getD};
 ghost use Rattle.lists.specs.Cut.{cut};
 ghost use Rattle.stations.specs.Sets.{everyone};
+ghost use Rattle.quorum.specs.FirstFamily.{firstFamily};
+ghost use Rattle.quorum.specs.Inner.Need.{Needs, noNeed};
 ghost use Rattle.quorum.specs.Limits.{mostStations, mostQuorums};
 ghost use Rattle.quorum.specs.Scratch.{scratchBytes};
-ghost use Rattle.quorum.specs.Need.{Needs, noNeed};
-ghost use Rattle.quorum.specs.FirstFamily.{firstFamily};
 use crate::MOST_STATIONS;
 
 // The lowest-numbered quorum that lowers what is still needed, again and again: a lower number

@@ -5,12 +5,12 @@ ghost use Prim.Native.Nat.{_+_, _≤_};
 ghost use lib.Dec.{leb};
 ghost use lib.ListN.{length, drop, getD};
 ghost use Rattle.stations.specs.Sets.{everyone};
+ghost use Rattle.quorum.specs.Answer.{refused as refusedBy, answerTo, answer, said};
+ghost use Rattle.quorum.specs.Inner.Need.{sizeOf};
 ghost use Rattle.quorum.specs.Limits.{mostStations, mostUnits, brokenLimit};
-ghost use Rattle.quorum.specs.Need.{sizeOf};
-ghost use Rattle.quorum.specs.Width.{width as widthOf};
 ghost use Rattle.quorum.specs.Nested.{nested};
 ghost use Rattle.quorum.specs.Scratch.{scratchBytes, cleaned};
-ghost use Rattle.quorum.specs.Answer.{refused as refusedBy, answerTo, answer, said};
+ghost use Rattle.quorum.specs.Width.{width as widthOf};
 
 mod even;
 mod family;

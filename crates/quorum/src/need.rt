@@ -3,9 +3,9 @@ ghost use mathlib.Core.Path.{_≡_};
 ghost use Prim.Native.Nat.{ℕ, _+_, _≤_, _<_};
 ghost use lib.Bits.{bitAnd};
 ghost use lib.ListN.{length, drop, getD};
+ghost use Rattle.quorum.specs.Inner.Need.{Needs, noNeed, leastByte, oneMore, oneLess};
 ghost use Rattle.quorum.specs.Limits.{mostStations, mostQuorums};
 ghost use Rattle.quorum.specs.Scratch.{scratchBytes};
-ghost use Rattle.quorum.specs.Need.{Needs, noNeed, leastByte, oneMore, oneLess};
 use crate::MOST_QUORUMS;
 use crate::without;
 

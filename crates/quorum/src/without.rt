@@ -2,7 +2,7 @@
 ghost use mathlib.Core.Path.{_≡_};
 ghost use Prim.Native.Nat.{_≤_};
 ghost use lib.ListN.{length, take};
-ghost use Rattle.quorum.specs.Need.{without as withoutOf};
+ghost use Rattle.quorum.specs.Inner.Need.{without as withoutOf};
 
 // Puts them at the front of a lent list and answers their number.
 pub(crate) fn without(i: usize, quorums: &[u16], found: &mut [u16]) -> usize

@@ -14,11 +14,11 @@ use Rattle.lists.proofs.Arrays.{every-shown}
 use Rattle.lists.proofs.Cuts.{length-cut, all-cut}
 use Rattle.lists.proofs.Searches.{all-map, every-false}
 use Rattle.quorum.specs.Limits.{mostQuorums, brokenLimit}
-use Rattle.quorum.proofs.LimitLaws.{limits-kept}
+use Rattle.quorum.proofs.Promises.{limits-kept}
 use Rattle.plain.specs.InRange.{goesUp, goesDown, entryIn, arbiterIn, phaseIn}
 use Rattle.plain.specs.Lanes.{linePlaces, keeps}
 use Rattle.plain.specs.declared.Message.the-variants.{Release, Grant}
-use Rattle.records.specs.Ranges.{goes, lanePlaces, laneIn, rowIn, lanesIn}
+use Rattle.records.specs.Inner.Ranges.{goes, lanePlaces, laneIn, rowIn, lanesIn}
 use Rattle.records.specs.View.{noSlot, noLane, noRow, noEntry, noStation, noArbiter, messageOf, laneOf, rowOf, lanesOf, phasesOf, grantedOf, arbiterOf, arbitersOf}
 use Rattle.records.specs.declared.Arbiter.{Arbiter}
 use Rattle.records.specs.declared.Lane.{Lane}

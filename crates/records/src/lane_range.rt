@@ -4,7 +4,7 @@ ghost use mathlib.Core.Path.{_≡_};
 ghost use Prim.Native.Nat.{_≤_};
 ghost use Rattle.plain.specs.Lanes.{upPlaces};
 ghost use Rattle.quorum.specs.Limits.{mostStations};
-ghost use Rattle.records.specs.Ranges.{goes, lanePlaces, laneIn, rowIn, lanesIn};
+ghost use Rattle.records.specs.Inner.Ranges.{goes, lanePlaces, laneIn, rowIn, lanesIn};
 ghost use Rattle.records.specs.View.{laneOf, rowOf, lanesOf};
 use crate::DOWN_PLACES;
 use crate::Lane;

@@ -7,7 +7,7 @@ use native.Mathlib.Numerals.{add-one}
 use native.Mathlib.Omega.{arith}
 use lib.Pow.{pow-pos, pow-mono}
 use Rattle.quorum.specs.Limits.{mostStations}
-use Rattle.tables.specs.Choose.{choose}
+use Rattle.tables.specs.Inner.Choose.{choose}
 
 pub choose-none : (n s : ℕ) → n < s → choose n s ≡ 0
 unfolding choose

@@ -22,9 +22,7 @@ use Rattle.quorum.specs.Accepted.{Accepted}
 use Rattle.quorum.specs.Arbiter.{Common, LiesWithin}
 use Rattle.quorum.specs.Family.{quorum, Numbers}
 use Rattle.quorum.specs.Limits.{mostStations, mostUnits, upTo}
-use Rattle.quorum.proofs.Accepts.{arbiter-accepted}
-use Rattle.quorum.proofs.CommonParts.{in-every, number-at}
-use Rattle.quorum.proofs.LimitLaws.{Limits, kept-limits, up-to}
+use Rattle.quorum.proofs.Promises.{arbiter-accepted, in-every, number-at, Limits, kept-limits, up-to}
 use Rattle.tables.specs.Cube.{cubeStations, stationAt, coordinate, agree, cubeQuorum, cubeTable, noCube, cubeRefusal}
 use Rattle.tables.proofs.Coordinates.{coordinate-lt, station-below, station-has, station-ext}
 use Rattle.tables.proofs.Making.{room-kept}

@@ -12,7 +12,8 @@ use lib.Dec.{eqb, ltb}
 use borrow.Author.Tests.{lt-ltb, le-ltb, eq-eqb, ne-eqb}
 use Rattle.lists.proofs.Tests.{known, or-left, or-right}
 use Rattle.quorum.specs.Limits.{mostStations}
-use Rattle.tables.specs.Cube.{cubeStations, boundedStations, noCube}
+use Rattle.tables.specs.Cube.{cubeStations, noCube}
+use Rattle.tables.specs.Inner.BoundedStations.{boundedStations}
 
 pub bounded-within : (a k n : ℕ) → n ≡ cubeStations a k → n ≤ mostStations → n ≡ boundedStations a k
 bounded-within a k n e h = rw (le-ltb mostStations (cubeStations a k) (omega arith)) e

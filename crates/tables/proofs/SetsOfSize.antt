@@ -13,7 +13,7 @@ use Rattle.lists.proofs.Counting.{numbers-add, numbers-same, numbers-none, numb
 use Rattle.lists.proofs.Tests.{eqb-suc}
 use Rattle.stations.specs.Sets.{countBelow}
 use Rattle.stations.proofs.Built.{count-top, count-under}
-use Rattle.tables.specs.Choose.{choose}
+use Rattle.tables.specs.Inner.Choose.{choose}
 use Rattle.tables.specs.Uniform.{setsOf}
 use Rattle.tables.proofs.Choosing.{choose-none}
 

@@ -1,21 +1,22 @@
 -- A singleton is accepted for every k: its one quorum has its one station.
 -- Assumes nothing.
-use mathlib.Core.Bool.{not}
+use mathlib.Core.Bool.{true, false, not}
 use mathlib.Core.List.{List}
 use mathlib.Core.Path.{_≡_}
-use Prim.Native.Nat.{ℕ, zero, suc, _^_, _≤_, _<_}
+use Prim.Native.Nat.{ℕ, zero, suc, _+_, _^_, _≤_, _<_}
 use native.Mathlib.Omega.{arith}
 use lib.Dec.{leb}
 use lib.Pow.{pow-pos, pow-lt}
-use borrow.Author.Tests.{leb-false}
-use Rattle.lists.proofs.Tests.{otherwise}
+use borrow.Author.Tests.{leb-false, le-leb}
+use Rattle.lists.proofs.Tests.{clash, not-true-false, and-both, otherwise}
 use Rattle.stations.proofs.Built.{member-only}
 use Rattle.quorum.specs.Accepted.{Accepted}
 use Rattle.quorum.specs.Arbiter.{InAll}
 use Rattle.quorum.specs.Family.{quorum, Numbers}
 use Rattle.quorum.specs.Limits.{mostStations, mostUnits, upTo}
-use Rattle.quorum.proofs.Accepts.{arbiter-accepted}
-use Rattle.quorum.proofs.LimitLaws.{Limits, kept-limits, up-to}
+use Rattle.quorum.specs.Nested.{nested}
+use Rattle.quorum.specs.Width.{width, lacksCommon}
+use Rattle.quorum.proofs.Promises.{arbiter-accepted, Limits, kept-limits, up-to, lacks-width, width-le-n}
 use Rattle.tables.specs.Singleton.{singletonTable, singletonRefusal}
 use Rattle.tables.proofs.Making.{room-kept}
 
@@ -40,7 +41,7 @@ in-all station f (Numbers.and {p} lt rest) =
     let first : p ≡ 0 = omega arith in
     InAll.and {p = p} (rw first (member-only station)) (in-all station _ rest)
 
--- every singleton that is written is accepted for every k
+-- every singleton that is written is accepted for every k within limit 2
 pub singleton-accepted : (n station room k : ℕ) → singletonRefusal n station room ≡ 0 → (1 ≤ k) × (k ≤ mostUnits) → Accepted n k (singletonTable station)
 unfolding singletonTable
 singleton-accepted n station room k e stock =
@@ -59,3 +60,20 @@ singleton-accepted n station room k e stock =
 
     limits : Limits n k (singletonTable station)
     limits = record { stations = kept .stations; stock = stock; quorums = (omega arith, omega arith); members = only-one }
+
+-- "Every table written passes 6 and 7 for its k, a singleton for every k": for every number k, within limit 2 or not, since a width is far below
+-- the largest stock
+pub singleton-passes : (n station room k : ℕ) → singletonRefusal n station room ≡ 0
+    → (lacksCommon n k (singletonTable station) ≡ false) × (nested (singletonTable station) ≡ false)
+unfolding lacksCommon
+singleton-passes n station room k e = (not-true-false (lacksCommon n k (singletonTable station)) lacks-none, most .not-nested)
+  where
+    most : Accepted n mostUnits (singletonTable station)
+    most = singleton-accepted n station room mostUnits e (omega arith, omega arith)
+
+    lacks-none : lacksCommon n k (singletonTable station) ≡ true → ⊥
+    lacks-none t =
+        let stations = singleton-kept n station room e .stations in
+        let w : ℕ = width n (singletonTable station) in
+        let (two, more) = lacks-width n k (singletonTable station) t in
+        clash (and-both (le-leb 2 w two) (le-leb w (mostUnits + 1) (omega (arith, width-le-n n (singletonTable station) (stations .0), stations .1)))) (most .common)

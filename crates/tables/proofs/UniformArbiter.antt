@@ -19,10 +19,8 @@ use Rattle.quorum.specs.Accepted.{Accepted}
 use Rattle.quorum.specs.Arbiter.{Common, LiesWithin}
 use Rattle.quorum.specs.Family.{quorum, commonWithin, commonPart, Numbers}
 use Rattle.quorum.specs.Limits.{mostStations, mostUnits, mostQuorums, upTo}
-use Rattle.quorum.proofs.Accepts.{arbiter-accepted}
-use Rattle.quorum.proofs.CommonMember.{common-or-empty}
-use Rattle.quorum.proofs.LimitLaws.{Limits, kept-limits, up-to}
-use Rattle.tables.specs.Choose.{choose}
+use Rattle.quorum.proofs.Promises.{arbiter-accepted, common-or-empty, Limits, kept-limits, up-to}
+use Rattle.tables.specs.Inner.Choose.{choose}
 use Rattle.tables.specs.Uniform.{setsOf, uniformSize, uniformTable, uniformRefusal}
 use Rattle.tables.proofs.Choosing.{choose-some}
 use Rattle.tables.proofs.Making.{room-kept}

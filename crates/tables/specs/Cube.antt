@@ -14,10 +14,6 @@ use Rattle.tables.specs.Made.{noRoom}
 abbrev pub cubeStations : ℕ → ℕ → ℕ
 cubeStations a k = a ^ (k + 1)
 
--- the same where that is at most 12, else 0
-abbrev pub boundedStations : ℕ → ℕ → ℕ
-boundedStations a k = cond (ltb mostStations (cubeStations a k)) 0 (cubeStations a k)
-
 -- the station "c0 + c1 × a + c2 × a² + …" of d coordinates
 unfoldable pub stationAt : ℕ → (ℕ → ℕ) → ℕ → ℕ
 stationAt a c zero = 0

@@ -1,5 +1,5 @@
-pub mod Choose
 pub mod Made
 pub mod Singleton
 pub mod Uniform
 pub mod Cube
+pub mod Inner

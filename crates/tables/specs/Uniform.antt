@@ -1,10 +1,9 @@
 -- The table of all sets of one size.
 use mathlib.Core.Bool.{cond, not}
-use mathlib.Core.List.{List, map}
+use mathlib.Core.List.{List}
 use Prim.Native.Nat.{ℕ, _+_, _*_, _/_, _^_}
 use lib.Dec.{eqb}
 use lib.ListN.{length}
-use lib.Seq.{sets}
 use Rattle.lists.specs.Counting.{numbersBelow}
 use Rattle.stations.specs.Sets.{countBelow}
 use Rattle.quorum.specs.Limits.{mostStations, mostUnits, upTo}
@@ -13,10 +12,6 @@ use Rattle.tables.specs.Made.{noRoom}
 -- all sets of s of the stations below n, by ascending number
 unfoldable pub setsOf : ℕ → ℕ → List ℕ
 setsOf n s = numbersBelow (λ q. eqb (countBelow q n) s) (2 ^ n)
-
--- a buffer with these sets stored in it from the place `at` on, each with the higher stations `above`
-abbrev pub stored : List ℕ → ℕ → ℕ → ℕ → ℕ → List ℕ
-stored out at above n s = sets out at (map (λ q. above + q) (setsOf n s))
 
 -- "floor(k × n / (k + 1)) + 1 stations"
 unfoldable pub uniformSize : ℕ → ℕ → ℕ

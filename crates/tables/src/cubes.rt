@@ -4,7 +4,8 @@ ghost use Prim.Native.Nat.{_+_, _≤_, _<_};
 ghost use lib.ListN.{length};
 ghost use lib.Seq.{sets};
 ghost use Rattle.quorum.specs.Limits.{mostStations, mostUnits};
-ghost use Rattle.tables.specs.Cube.{cubeStations, boundedStations, agree as agreeIn, cubeQuorum, cubeTable, cubeRefusal};
+ghost use Rattle.tables.specs.Cube.{cubeStations, agree as agreeIn, cubeQuorum, cubeTable, cubeRefusal};
+ghost use Rattle.tables.specs.Inner.BoundedStations.{boundedStations};
 
 // The number of stations, a^(k + 1), where that is at most 12, else 0.
 pub(crate) fn stations_of(a: usize, k: usize) -> usize

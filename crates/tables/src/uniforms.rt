@@ -4,8 +4,9 @@ ghost use Prim.Native.Nat.{_+_, _^_, _≤_};
 ghost use lib.ListN.{length};
 ghost use Rattle.stations.specs.Sets.{places};
 ghost use Rattle.quorum.specs.Limits.{mostStations, mostUnits};
-ghost use Rattle.tables.specs.Choose.{choose};
-ghost use Rattle.tables.specs.Uniform.{stored, uniformSize, uniformRefusal};
+ghost use Rattle.tables.specs.Inner.Choose.{choose};
+ghost use Rattle.tables.specs.Inner.Stored.{stored};
+ghost use Rattle.tables.specs.Uniform.{uniformSize, uniformRefusal};
 
 // The number of stations in each set.
 pub(crate) fn size_of(n: usize, k: usize) -> usize

@@ -7,9 +7,7 @@ use lib.ListN.{length}
 use borrow.Author.Needs.{needs}
 use Rattle.quorum.specs.Answer.{Answer, said, answer}
 use Rattle.quorum.specs.Refusal.{refusal}
-use Rattle.quorum.proofs.Accepts.{passed}
-use Rattle.quorum.proofs.LimitLaws.{limits-kept}
-use Rattle.quorum.proofs.Refusals.{answer-refusal}
+use Rattle.quorum.proofs.Promises.{passed, limits-kept, answer-refusal}
 use Rattle.machine.proofs.OpeningRecord.{opening-refused, opening-fresh}
 use Rattle.machine.proofs.inspect.Statement.{statement}
 use Rattle.machine.proofs.inspect.Tie as tie

@@ -5,7 +5,7 @@ use lib.ListN.{length}
 use borrow.Author.Needs.{needs}
 use Rattle.quorum.specs.Answer.{Answer, said, answer}
 use Rattle.quorum.specs.Refusal.{refusal}
-use Rattle.quorum.proofs.Refusals.{answer-refusal}
+use Rattle.quorum.proofs.Promises.{answer-refusal}
 use Rattle.machine.proofs.OpeningRecord.{opening-both}
 use Rattle.machine.proofs.open.Statement.{statement}
 use Rattle.machine.proofs.open.Tie as tie

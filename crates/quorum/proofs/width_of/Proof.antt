@@ -7,7 +7,7 @@ use borrow.Author.Needs.{needs}
 use borrow.Author.Tests.{eq-eqb, ne-eqb}
 use Rattle.stations.specs.Sets.{everyone}
 use Rattle.stations.proofs.Members.{everyone-le, everyone-min}
-use Rattle.quorum.specs.Need.{noNeed}
+use Rattle.quorum.specs.Inner.Need.{noNeed}
 use Rattle.quorum.proofs.width_of.Statement.{statement}
 use Rattle.quorum.proofs.width_of.Tie as tie
 

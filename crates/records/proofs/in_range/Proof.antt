@@ -8,7 +8,7 @@ use borrow.Author.Needs.{needs}
 use borrow.Author.Tests.{eqb-true, not-true, not-false}
 use Rattle.lists.proofs.Cuts.{length-cut}
 use Rattle.quorum.specs.Limits.{mostStations, brokenLimit}
-use Rattle.quorum.proofs.LimitLaws.{limits-kept}
+use Rattle.quorum.proofs.Promises.{limits-kept}
 use Rattle.plain.specs.InRange.{inRange}
 use Rattle.records.specs.View.{view, tableOf}
 use Rattle.records.specs.declared.Record.{Record}

@@ -5,8 +5,9 @@ use native.Mathlib.Omega.{arith}
 use lib.ListN.{length}
 use lib.Pow.{pow-mono}
 use borrow.Author.Needs.{needs}
-use Rattle.tables.specs.Choose.{choose}
-use Rattle.tables.specs.Uniform.{stored, uniformTable, uniformSize}
+use Rattle.tables.specs.Inner.Choose.{choose}
+use Rattle.tables.specs.Inner.Stored.{stored}
+use Rattle.tables.specs.Uniform.{uniformTable, uniformSize}
 use Rattle.tables.proofs.Making.{on-refusal, on-table}
 use Rattle.tables.proofs.UniformArbiter.{uniform-kept, uniform-length}
 use Rattle.tables.proofs.WritingSets.{stored-front}

@@ -5,7 +5,7 @@ use mathlib.Core.Path.{sym, ap, _∙_}
 use native.Mathlib.Omega.{arith}
 use Rattle.plain.specs.Arbiter.{served}
 use Rattle.plain.specs.State.{Arbiter}
-use Rattle.machine.specs.Ready.{Serves}
+use Rattle.machine.specs.Inner.Ready.{Serves}
 use Rattle.machine.proofs.ArrivingMessage.{in-range-serves, arrived-serves}
 use Rattle.machine.proofs.delivery.deliver.Statement.{statement}
 use Rattle.machine.proofs.delivery.deliver.Tie as tie

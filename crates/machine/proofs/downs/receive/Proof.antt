@@ -7,7 +7,7 @@ use borrow.Author.Tests.{ltb-true}
 use Rattle.plain.specs.Down.{taken, takenAt}
 use Rattle.records.specs.View.{view, tableOf}
 use Rattle.records.proofs.Viewing.{phases-at}
-use Rattle.machine.specs.Takings.{takenOf, within}
+use Rattle.machine.specs.Inner.Takings.{takenOf, within}
 use Rattle.machine.proofs.RecordInRange.{wishes}
 use Rattle.machine.proofs.downs.receive.Statement.{statement}
 use Rattle.machine.proofs.downs.receive.Tie as tie

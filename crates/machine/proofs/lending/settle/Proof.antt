@@ -6,7 +6,7 @@ use native.Mathlib.Omega.{arith}
 use borrow.Author.Needs.{needs}
 use borrow.Author.Tests.{not-true, not-false}
 use Rattle.quorum.specs.Limits.{mostStations, mostUnits, upTo}
-use Rattle.quorum.proofs.LimitLaws.{up-to}
+use Rattle.quorum.proofs.Promises.{up-to}
 use Rattle.plain.specs.InRange.{goesUp, arbiterIn}
 use Rattle.records.specs.View.{arbiterOf}
 use Rattle.machine.specs.Lent.{badUnits, delivering, sentUp}

@@ -7,7 +7,7 @@ use native.Mathlib.Omega.{arith}
 use lib.ListN.{length}
 use borrow.Author.Needs.{needs}
 use borrow.Author.Tests.{not-true, not-false}
-use Rattle.quorum.proofs.LimitLaws.{up-to}
+use Rattle.quorum.proofs.Promises.{up-to}
 use Rattle.plain.specs.Request.{isIdle}
 use Rattle.records.specs.View.{view}
 use Rattle.records.proofs.Viewing.{phases-at}

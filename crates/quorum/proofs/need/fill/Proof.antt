@@ -6,7 +6,7 @@ use native.Mathlib.Omega.{arith}
 use lib.ListN.{length, drop, length-set}
 use lib.Seq.{drop-set-lt}
 use borrow.Author.Needs.{needs}
-use Rattle.quorum.specs.Need.{Needs}
+use Rattle.quorum.specs.Inner.Need.{Needs}
 use Rattle.quorum.specs.Scratch.{scratchBytes}
 use Rattle.quorum.proofs.Needing.{filled-zero}
 use Rattle.quorum.proofs.need.fill.Statement.{statement}

@@ -11,7 +11,7 @@ use lib.Pow.{pow-mono}
 use lib.Seq.{drop-set-lt}
 use borrow.Author.Needs.{needs}
 use Rattle.stations.proofs.Built.{only-below, member-highest}
-use Rattle.quorum.specs.Need.{Need, noNeed, leastByte, oneMore, oneLess}
+use Rattle.quorum.specs.Inner.Need.{Need, noNeed, leastByte, oneMore, oneLess}
 use Rattle.quorum.specs.Scratch.{scratchBytes}
 use Rattle.quorum.proofs.Needing.{left-low, filled-next}
 use Rattle.quorum.proofs.need.fill_highest.Statement.{statement}

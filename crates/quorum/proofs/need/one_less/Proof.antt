@@ -3,7 +3,7 @@
 use mathlib.Core.Path.{sym, ap}
 use borrow.Author.Needs.{needs}
 use borrow.Author.Tests.{eq-eqb, ne-eqb}
-use Rattle.quorum.specs.Need.{noNeed, oneLess}
+use Rattle.quorum.specs.Inner.Need.{noNeed, oneLess}
 use Rattle.quorum.proofs.need.one_less.Statement.{statement}
 use Rattle.quorum.proofs.need.one_less.Tie as tie
 

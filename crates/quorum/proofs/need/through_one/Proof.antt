@@ -9,7 +9,7 @@ use lib.ListN.{length, drop, getD, length-drop}
 use lib.Seq.{getD-drop}
 use borrow.Author.Needs.{needs}
 use borrow.Author.Tests.{eq-eqb, ne-eqb}
-use Rattle.quorum.specs.Need.{noNeed, leastByte, oneMore}
+use Rattle.quorum.specs.Inner.Need.{noNeed, leastByte, oneMore}
 use Rattle.quorum.proofs.Needing.{least-next, least-end, least-low}
 use Rattle.quorum.proofs.need.through_one.Statement.{statement}
 use Rattle.quorum.proofs.need.through_one.Tie as tie

@@ -7,7 +7,7 @@ use lib.ListN.{getD}
 use borrow.Author.Needs.{needs}
 use borrow.Author.Tests.{not-true, not-false}
 use Rattle.lists.proofs.Searches.{Tested, tested-none, tested-more, tested-end}
-use Rattle.records.specs.Ranges.{lanePlaces, goes}
+use Rattle.records.specs.Inner.Ranges.{lanePlaces, goes}
 use Rattle.records.specs.View.{noSlot}
 use Rattle.records.proofs.Ranging.{lane-long, lane-bad, lane-good}
 use Rattle.records.proofs.lane_range.lane_in.Statement.{statement}

@@ -7,7 +7,7 @@ use lib.ListN.{getD}
 use borrow.Author.Needs.{needs}
 use borrow.Author.Tests.{not-true, not-false}
 use Rattle.lists.proofs.Searches.{Tested, tested-none, tested-more, tested-fails, tested-end}
-use Rattle.records.specs.Ranges.{rowIn}
+use Rattle.records.specs.Inner.Ranges.{rowIn}
 use Rattle.records.specs.View.{noRow, rowOf}
 use Rattle.records.proofs.Ranging.{lanes-in}
 use Rattle.records.proofs.lane_range.lanes_in.Statement.{statement}

@@ -7,7 +7,7 @@ use lib.ListN.{getD}
 use borrow.Author.Needs.{needs}
 use borrow.Author.Tests.{not-true, not-false}
 use Rattle.lists.proofs.Searches.{Tested, tested-none, tested-more, tested-fails, tested-end}
-use Rattle.records.specs.Ranges.{laneIn}
+use Rattle.records.specs.Inner.Ranges.{laneIn}
 use Rattle.records.specs.View.{noLane, laneOf}
 use Rattle.records.proofs.Ranging.{row-in}
 use Rattle.records.proofs.lane_range.row_in.Statement.{statement}

@@ -6,7 +6,7 @@ use Prim.Native.Nat.{ℕ}
 use borrow.Author.Needs.{needs}
 use borrow.Author.Tests.{not-true, not-false}
 use Rattle.quorum.specs.Limits.{mostUnits}
-use Rattle.quorum.proofs.LimitLaws.{up-to}
+use Rattle.quorum.proofs.Promises.{up-to}
 use Rattle.tables.specs.Made.{noRoom}
 use Rattle.tables.specs.Cube.{cubeRefusal}
 use Rattle.tables.proofs.CubeStations.{bounded-none, bounded-some}

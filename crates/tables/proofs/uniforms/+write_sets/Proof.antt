@@ -8,7 +8,7 @@ use borrow.Author.Needs.{needs}
 use borrow.Fn.Kinds.{In}
 use borrow.Fn.PlainCycle.{Measures, is, falls, and}
 use Rattle.stations.proofs.Built.{only-below}
-use Rattle.tables.specs.Choose.{choose}
+use Rattle.tables.specs.Inner.Choose.{choose}
 use Rattle.tables.proofs.Choosing.{choose-none, choose-some}
 use Rattle.tables.proofs.WritingSets.{choose-last, stored-one, stored-none, stored-halves, above-fits}
 use Rattle.tables.proofs.uniforms.+write_sets.{statement}

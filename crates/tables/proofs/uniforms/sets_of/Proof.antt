@@ -5,7 +5,7 @@ use Prim.Native.Nat.{ℕ, _+_, _-_, _*_, _/_, _≤_}
 use native.Mathlib.Omega.{arith}
 use borrow.Author.Needs.{needs}
 use Rattle.tables.proofs.Choosing.{choose-small, choose-next}
-use Rattle.tables.specs.Choose.{choose}
+use Rattle.tables.specs.Inner.Choose.{choose}
 use Rattle.tables.proofs.uniforms.sets_of.Statement.{statement}
 use Rattle.tables.proofs.uniforms.sets_of.Tie as tie
 

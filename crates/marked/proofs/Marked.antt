@@ -4,33 +4,33 @@ use mathlib.Core.List.{List, [], _∷_, _++_, map}
 use mathlib.Core.Path.{_≡_, refl}
 use Prim.Native.Nat.{ℕ}
 use Rattle.lists.specs.At.{at}
-use Rattle.lists.specs.Counting.{total}
+use Rattle.lists.specs.Counting.{each, total}
 use Rattle.stations.specs.Member.{member}
 use Rattle.stations.specs.Sets.{contains, setOf, lowestAmong, lowestFrom}
 use Rattle.quorum.specs.Answer.{answer, answerTo}
 use Rattle.quorum.specs.Even.{belongs, even}
-use Rattle.quorum.specs.Family.{commonWithin, families}
+use Rattle.quorum.specs.Family.{quorum as quorumAt, commonWithin, families}
 use Rattle.quorum.specs.FirstFamily.{firstFamily}
 use Rattle.quorum.specs.Limits.{brokenLimit}
 use Rattle.quorum.specs.Nested.{nested}
 use Rattle.quorum.specs.Refusal.{refusal}
 use Rattle.quorum.specs.Scratch.{scratchBytes}
 use Rattle.quorum.specs.Width.{emptied, leastSize, width, lacksCommon}
-use Rattle.tables.specs.Cube.{coordinate, agree, cubeQuorum}
+use Rattle.tables.specs.Cube.{coordinate, agree, cubeQuorum, cubeTable}
 use Rattle.plain.specs.Answer.{Answer, answered}
 use Rattle.plain.specs.Arbiter.{arrived, fits, serve, unitsIn}
 use Rattle.plain.specs.Delivery.{laneRefusal, deliveryRefusal}
 use Rattle.plain.specs.Down.{onward, taken, receivedAs, received, down}
 use Rattle.plain.specs.InRange.{goesUp, goesDown, phaseIn, entryIn, arbiterIn, inRange}
 use Rattle.plain.specs.Lanes.{keeps}
 use Rattle.plain.specs.Release.{releasing, releaseRefusal, released, release}
 use Rattle.plain.specs.Request.{requestRefusal, requested, request}
 use Rattle.plain.specs.Run.{Call, call, run}
 use Rattle.plain.specs.State.{fresh}
 use Rattle.plain.specs.Up.{granting, delivered, up}
 use Rattle.plain.proofs.HandMade.{Call-says, said, done, enters, refuses}
 
--- what a marked case says: the check's answer on a table, a quorum, or the answers of a run
+-- what a marked case says: the check's answer on a table, a quorum of a ready-made table, or the answers of a run
 pub data Says : Type 0 where
   table : (refusal width even : ℕ) (family : List ℕ) → Says
   quorum : ℕ → Says
@@ -81,7 +81,7 @@ pub marked :
     -- P9
     ∷ check 2 1 (1 ∷ 2 ∷ 3 ∷ [])
     -- P10
-    ∷ Says.quorum (cubeQuorum 3 1 0)
+    ∷ Says.quorum (quorumAt (cubeTable 3 1) 0)
     -- P11
     ∷ from-fresh 3 1 three first-enters
     -- P12
@@ -112,5 +112,5 @@ pub marked :
     -- P12
     ∷ Says.calls (done ∷ done ∷ done ∷ done ∷ enters 1 ∷ done ∷ done ∷ refuses 13 ∷ [])
     ∷ [])
-unfolding answer answerTo refusal nested even belongs width emptied leastSize firstFamily lacksCommon commonWithin families brokenLimit member contains cubeQuorum setOf agree coordinate lowestAmong lowestFrom at total fresh answered arrived fits serve unitsIn onward taken receivedAs received down goesUp goesDown keeps phaseIn entryIn arbiterIn inRange releasing releaseRefusal released release requestRefusal requested request call run granting laneRefusal deliveryRefusal delivered up
+unfolding answer answerTo refusal nested even belongs width emptied leastSize firstFamily lacksCommon commonWithin families brokenLimit member contains cubeTable each cubeQuorum setOf agree coordinate lowestAmong lowestFrom at total fresh answered arrived fits serve unitsIn onward taken receivedAs received down goesUp goesDown keeps phaseIn entryIn arbiterIn inRange releasing releaseRefusal released release requestRefusal requested request call run granting laneRefusal deliveryRefusal delivered up
 marked = refl

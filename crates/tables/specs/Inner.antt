@@ -1,0 +1,4 @@
+-- Definitions that contracts of inner functions and proofs cite, and nothing that a caller is promised.
+pub mod BoundedStations
+pub mod Choose
+pub mod Stored
