@@ -2,7 +2,8 @@
 
 use model::random;
 use model::rng::Rng;
-use model::table::{check, scratch_after, Checked, SCRATCH};
+use model::table::{check, even, scratch_after, Checked, SCRATCH};
+use pafluzeno::header;
 use std::collections::BTreeMap;
 
 /// Two halves, as two tests that may run at the same time.
@@ -116,8 +117,21 @@ fn generate(rng: &mut Rng) -> Case {
     }
 }
 
-/// The library's answer in the model's words.
+/// The library's answer in the model's words: every field of it, of a refused table too.
 fn by_library(case: &Case, scratch: &mut [u8]) -> Checked {
+    let answer = header::check(case.n, case.k, &case.quorums, scratch);
+    assert!(answer.even <= 1, "even is {}", answer.even);
+    let family = &answer.family[..answer.size];
+    Checked {
+        refusal: answer.refusal.into(),
+        width: answer.width,
+        even: answer.even == 1,
+        family: family.iter().map(|&q| q.into()).collect(),
+    }
+}
+
+/// The wrapper's. A refused one has no even.
+fn by_wrapper(case: &Case, scratch: &mut [u8]) -> Checked {
     match pafluzeno::check(case.n, case.k, &case.quorums, scratch) {
         Ok(accepted) => Checked {
             refusal: 0,
@@ -147,15 +161,13 @@ fn compare(seed: u64, case: &Case) -> Checked {
             scratch.len()
         )
     };
-    let mut scratch = case.scratch.clone();
-    let theirs = by_library(case, &mut scratch);
     let ours = check(case.n, case.k, &case.quorums, case.scratch.len());
-    assert_eq!(theirs, ours, "{}", shown());
-    assert!(
-        scratch == scratch_after(&case.scratch),
-        "the scratch of {}",
-        shown()
-    );
+    let after = scratch_after(&case.scratch);
+    for theirs in [by_library, by_wrapper] {
+        let mut scratch = case.scratch.clone();
+        assert_eq!(theirs(case, &mut scratch), ours, "{}", shown());
+        assert!(scratch == after, "the scratch of {}", shown());
+    }
     ours
 }
 
@@ -164,13 +176,16 @@ fn compare_half(first: u64) {
     let mut widths = BTreeMap::new();
     let mut evens = BTreeMap::new();
     for seed in first..first + HALF {
-        let answer = compare(seed, &generate(&mut Rng::new(seed)));
+        let case = generate(&mut Rng::new(seed));
+        let answer = compare(seed, &case);
         *refusals.entry(answer.refusal).or_insert(0) += 1;
         if matches!(answer.refusal, 0 | 6 | 7) {
             *widths.entry((answer.refusal, answer.width)).or_insert(0) += 1;
         }
-        if answer.refusal == 0 {
-            *evens.entry(answer.even).or_insert(0) += 1;
+        // Of 5, 6 and 7 too: there even is 0, whatever the stations belong to.
+        if matches!(answer.refusal, 0 | 5 | 6 | 7) {
+            let equally = even(case.n, &case.quorums);
+            *evens.entry((answer.refusal, equally)).or_insert(0) += 1;
         }
     }
     let seen = |key| refusals.get(&key).copied().unwrap_or(0);
@@ -190,10 +205,10 @@ fn compare_half(first: u64) {
             "widths {widths:?}"
         );
     }
-    assert!(
-        evens[&true] >= 300 && evens[&false] >= 300,
-        "even {evens:?}"
-    );
+    let nested_and_wide: usize = (1..=12).map(|width| of_width(width)[2]).sum();
+    assert!(nested_and_wide >= 300, "widths {widths:?}");
+    assert!(evens.len() == 8, "even {evens:?}");
+    assert!(evens.values().all(|&seen| seen >= 300), "even {evens:?}");
 }
 
 #[test]
@@ -204,6 +219,41 @@ fn first_half() {
 #[test]
 fn second_half() {
     compare_half(HALF);
+}
+
+/// Worked out by hand: n, k, quorums and bytes of scratch, then refusal and width. None is even, though in the last two
+/// all stations belong to equally many quorums.
+#[test]
+fn by_hand() {
+    let mut too_many = [7; 65];
+    too_many[0] = 8;
+    let rows: [(usize, usize, &[u16], usize, usize, usize); 8] = [
+        (13, 0, &[1], 4096, 1, 0),
+        (1, 201, &[], 4096, 2, 0),
+        (3, 1, &too_many, 4096, 3, 0),
+        (3, 1, &[8], 4095, 4, 0),
+        (2, 5, &[1, 2], 4095, 5, 0),
+        (2, 5, &[1, 2, 3], 4096, 6, 2),
+        (3, 1, &[3, 5, 6, 7], 4096, 7, 3),
+        (1, 1, &[1, 1], 4096, 7, 0),
+    ];
+    for (n, k, quorums, scratch, refusal, width) in rows {
+        let case = Case {
+            n,
+            k,
+            quorums: quorums.to_vec(),
+            scratch: vec![1; scratch],
+        };
+        let family = if refusal == 6 { vec![0, 1] } else { vec![] };
+        let expected = Checked {
+            refusal,
+            width,
+            even: false,
+            family,
+        };
+        assert_eq!(compare(0, &case), expected, "{quorums:?}");
+    }
+    assert!(even(3, &[3, 5, 6, 7]) && even(1, &[1, 1]));
 }
 
 /// Every table of up to three quorums of up to four stations, at a stock of 1 to 4.

@@ -1,9 +1,47 @@
-//! The journal's calls on slices, with the answers of the header as they are. A comparison looks at all of a refused answer, of which the
-//! journal's own functions keep only the refusal.
+//! The calls on slices and references, with the answers of the header as they are. A comparison looks at all of a refused answer, of which the
+//! crate's own functions keep only a part.
 
 use crate::raw;
 
-pub use raw::{Part, Printed, Read, Sum, Tallied, Written};
+pub use raw::{Arrival, Checked, Made, Part, Printed, Read, Reply, Sum, Tallied, Written};
+
+pub fn check(n: usize, k: usize, quorums: &[u16], scratch: &mut [u8]) -> Checked {
+    // SAFETY: pointers and lengths are those of live slices, and the scratch is borrowed by this call alone.
+    unsafe {
+        raw::pafluzeno_check(
+            n,
+            k,
+            quorums.as_ptr(),
+            quorums.len(),
+            scratch.as_mut_ptr(),
+            scratch.len(),
+        )
+    }
+}
+
+type Maker = unsafe extern "C" fn(usize, usize, *mut u16, usize) -> Made;
+
+fn made(maker: Maker, first: usize, second: usize, out: &mut [u16]) -> Made {
+    // SAFETY: as above.
+    unsafe { maker(first, second, out.as_mut_ptr(), out.len()) }
+}
+
+pub fn singleton(n: usize, station: usize, out: &mut [u16]) -> Made {
+    made(raw::pafluzeno_singleton, n, station, out)
+}
+
+pub fn uniform(n: usize, k: usize, out: &mut [u16]) -> Made {
+    made(raw::pafluzeno_uniform, n, k, out)
+}
+
+pub fn cube(a: usize, k: usize, out: &mut [u16]) -> Made {
+    made(raw::pafluzeno_cube, a, k, out)
+}
+
+pub fn tell(arbiter: &mut raw::Arbiter, message: Arrival) -> Reply {
+    // SAFETY: the reference is live and exclusive, and `Arbiter` has the layout of the header's struct.
+    unsafe { raw::pafluzeno_tell(arbiter, message) }
+}
 
 pub fn read_line(key: &[u8], text: &[u8]) -> Part {
     // SAFETY: pointers and lengths are those of live slices, as below.

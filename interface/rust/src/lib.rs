@@ -95,17 +95,7 @@ pub fn check(
     quorums: &[u16],
     scratch: &mut [u8],
 ) -> Result<Accepted, Refused> {
-    // SAFETY: pointer and length are those of live slices, and the scratch is borrowed by this call alone.
-    let checked = unsafe {
-        raw::pafluzeno_check(
-            stations,
-            stock,
-            quorums.as_ptr(),
-            quorums.len(),
-            scratch.as_mut_ptr(),
-            scratch.len(),
-        )
-    };
+    let checked = header::check(stations, stock, quorums, scratch);
     match Refusal::from_number(checked.refusal) {
         None => Ok(Accepted {
             width: checked.width,
@@ -120,32 +110,27 @@ pub fn check(
     }
 }
 
-type Maker = unsafe extern "C" fn(usize, usize, *mut u16, usize) -> raw::Made;
-
-fn made(maker: Maker, first: usize, second: usize, out: &mut [u16]) -> Result<usize, Refusal> {
-    // SAFETY: pointer and length are those of a live slice, borrowed by this call alone.
-    let made = unsafe { maker(first, second, out.as_mut_ptr(), out.len()) };
+fn written(made: raw::Made) -> Result<usize, Refusal> {
     Refusal::from_number(made.refusal).map_or(Ok(made.quorums), Err)
 }
 
 /// One quorum, that station alone. Answers the number of quorums written, as the other makers do; a refusal leaves `out` as it was.
 pub fn singleton(stations: usize, station: usize, out: &mut [u16]) -> Result<usize, Refusal> {
-    made(raw::pafluzeno_singleton, stations, station, out)
+    written(header::singleton(stations, station, out))
 }
 
 /// All sets of floor(k × n / (k + 1)) + 1 of n stations, by ascending number.
 pub fn uniform(stations: usize, stock: usize, out: &mut [u16]) -> Result<usize, Refusal> {
-    made(raw::pafluzeno_uniform, stations, stock, out)
+    written(header::uniform(stations, stock, out))
 }
 
 /// side^(stock + 1) stations; for each the quorum of those that agree with it in at least one coordinate.
 pub fn cube(side: usize, stock: usize, out: &mut [u16]) -> Result<usize, Refusal> {
-    made(raw::pafluzeno_cube, side, stock, out)
+    written(header::cube(side, stock, out))
 }
 
 fn tell(arbiter: &mut Arbiter, message: raw::Arrival) -> Result<u16, Refusal> {
-    // SAFETY: the reference is live and exclusive, and `Arbiter` has the layout of the header's struct.
-    let reply = unsafe { raw::pafluzeno_tell(arbiter, message) };
+    let reply = header::tell(arbiter, message);
     Refusal::from_number(reply.refusal).map_or(Ok(reply.granted), Err)
 }
 
