@@ -2,6 +2,7 @@
 
 use model::arbiter::{lent, mask, Arbiter, Entry, Lent, Sent};
 use model::rng::Rng;
+use pafluzeno::header;
 use std::collections::BTreeMap;
 
 /// The library's record in the model's words. What stands beyond the line's length does not belong to it; a length above
@@ -42,6 +43,28 @@ fn note(met: &mut Met, before: &Arbiter, answer: &Lent) {
     met.waited += usize::from(answer.after.line.len() > before.line.len());
 }
 
+/// Refusal and granted stations, of a refused call too, and the record afterwards. The units of a RELEASE mean nothing.
+fn whole_answer(
+    record: &pafluzeno::Arbiter,
+    k: usize,
+    station: usize,
+    sent: Sent,
+) -> (usize, u16, pafluzeno::Arbiter) {
+    let (request, units) = match sent {
+        Sent::Request(units) => (true, units),
+        Sent::Release => (false, k.wrapping_add(1)),
+    };
+    let message = header::Arrival {
+        stock: k,
+        station,
+        request,
+        units,
+    };
+    let mut after = *record;
+    let reply = header::tell(&mut after, message);
+    (reply.refusal.into(), reply.granted, after)
+}
+
 /// One call on the library's record, compared with the model's call on the same content.
 fn compare(
     place: &str,
@@ -58,14 +81,12 @@ fn compare(
         Sent::Release => pafluzeno::release(record, k, station),
     };
     let ours = lent(&read(&before), k, station, sent);
+    let answer = (ours.refusal, mask(&ours.granted), *record);
+    let whole = whole_answer(&before, k, station, sent);
+    assert_eq!(whole, answer, "{}", shown());
     match theirs {
         Ok(granted) => {
-            assert_eq!(
-                (0, granted),
-                (ours.refusal, mask(&ours.granted)),
-                "{}",
-                shown()
-            );
+            assert_eq!((0, granted), (answer.0, answer.1), "{}", shown());
             assert_eq!(read(record), ours.after, "{}", shown());
         }
         Err(refusal) => {

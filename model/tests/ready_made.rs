@@ -2,12 +2,36 @@
 
 use model::ready::{cube, singleton, uniform, write, Made};
 use model::table::{check, SCRATCH};
+use pafluzeno::{header, Refusal};
 use std::collections::BTreeMap;
 
 /// What stands in a buffer before the call.
 const BEFORE: u16 = 43690;
 
-type Maker = fn(usize, usize, &mut [u16]) -> Result<usize, pafluzeno::Refusal>;
+/// A maker with the whole of its answer, of a refused one too, and as the wrapper has it.
+struct Maker {
+    name: &'static str,
+    library: fn(usize, usize, &mut [u16]) -> header::Made,
+    wrapper: fn(usize, usize, &mut [u16]) -> Result<usize, Refusal>,
+}
+
+const SINGLETON: Maker = Maker {
+    name: "singleton",
+    library: header::singleton,
+    wrapper: pafluzeno::singleton,
+};
+
+const UNIFORM: Maker = Maker {
+    name: "uniform",
+    library: header::uniform,
+    wrapper: pafluzeno::uniform,
+};
+
+const CUBE: Maker = Maker {
+    name: "cube",
+    library: header::cube,
+    wrapper: pafluzeno::cube,
+};
 
 /// The buffer's lengths: none, one short of the table, just enough, and more.
 fn lengths(made: &Made) -> Vec<usize> {
@@ -17,23 +41,27 @@ fn lengths(made: &Made) -> Vec<usize> {
 
 /// The refusal, the number written and the whole buffer afterwards. Answers the refusals, by how often they were given.
 fn compare(
-    name: &str,
-    maker: Maker,
+    maker: &Maker,
     first: usize,
     second: usize,
     made: &Made,
     seen: &mut BTreeMap<usize, usize>,
 ) {
     for len in lengths(made) {
-        let mut theirs = vec![BEFORE; len];
-        let answer = match maker(first, second, &mut theirs) {
-            Ok(count) => (0, count),
-            Err(refusal) => (refusal.number().into(), 0),
-        };
+        let case = format!("{} of {first} and {second} in {len}", maker.name);
         let mut ours = vec![BEFORE; len];
         let expected = write(made.clone(), &mut ours);
-        assert_eq!(answer, expected, "{name} of {first} and {second} in {len}");
-        assert_eq!(theirs, ours, "{name} of {first} and {second} in {len}");
+        let mut theirs = vec![BEFORE; len];
+        let answer = (maker.library)(first, second, &mut theirs);
+        let answer = (answer.refusal.into(), answer.quorums);
+        assert_eq!(answer, expected, "{case}");
+        assert_eq!(theirs, ours, "{case}");
+        theirs.fill(BEFORE);
+        match (maker.wrapper)(first, second, &mut theirs) {
+            Ok(count) => assert_eq!((0, count), expected, "{case}"),
+            Err(refusal) => assert_eq!(usize::from(refusal.number()), expected.0, "{case}"),
+        }
+        assert_eq!(theirs, ours, "{case}");
         *seen.entry(expected.0).or_insert(0) += 1;
     }
 }
@@ -94,14 +122,7 @@ fn singletons() {
     for n in firsts() {
         for station in seconds() {
             let made = singleton(n, station);
-            compare(
-                "singleton",
-                pafluzeno::singleton,
-                n,
-                station,
-                &made,
-                &mut seen,
-            );
+            compare(&SINGLETON, n, station, &made, &mut seen);
             if let Ok(quorums) = made {
                 for k in 1..=200 {
                     assert_passes(n, k, &quorums);
@@ -118,7 +139,7 @@ fn uniforms() {
     for n in firsts() {
         for k in seconds() {
             let made = uniform(n, k);
-            compare("uniform", pafluzeno::uniform, n, k, &made, &mut seen);
+            compare(&UNIFORM, n, k, &made, &mut seen);
             if let Ok(quorums) = made {
                 assert_passes(n, k, &quorums);
             }
@@ -133,7 +154,7 @@ fn cubes() {
     for a in firsts() {
         for k in seconds() {
             let made = cube(a, k);
-            compare("cube", pafluzeno::cube, a, k, &made, &mut seen);
+            compare(&CUBE, a, k, &made, &mut seen);
             if let Ok(quorums) = made {
                 assert_passes(quorums.len(), k, &quorums);
             }
