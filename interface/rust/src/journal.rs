@@ -4,9 +4,6 @@ use crate::header;
 use crate::raw::{Part, Record, Sum};
 use crate::refusal::Refusal;
 
-/// A page wants a buffer of so many bytes; none is longer.
-pub const PAGE_ROOM: usize = 196_617;
-
 /// The words of `do`.
 #[derive(Clone, Copy, PartialEq, Eq, Debug)]
 #[repr(u16)]

@@ -51,15 +51,10 @@ mod raw;
 mod refusal;
 
 pub use journal::{after_record, page, read_line, read_record, tally, write_record};
-pub use journal::{Do, Tally, PAGE_ROOM};
+pub use journal::{Do, Tally};
 pub use raw::{Arbiter, Entry, Record};
+pub use raw::{MOST_QUORUMS, MOST_STATIONS, MOST_UNITS, PAGE_ROOM, SCRATCH_BYTES};
 pub use refusal::Refusal;
-
-pub const MOST_STATIONS: usize = raw::MOST_STATIONS;
-pub const MOST_UNITS: usize = 200;
-pub const MOST_QUORUMS: usize = 64;
-/// The check wants so many bytes of scratch.
-pub const SCRATCH_BYTES: usize = 4096;
 
 /// A table that may be used.
 #[derive(Clone, Copy, PartialEq, Eq, Debug)]
@@ -87,8 +82,8 @@ impl Refused {
     }
 }
 
-/// The check of a table. Bit i of a quorum, worth 2^i, is one exactly when station i is a member. A scratch of 4,096 bytes or more has zeros in
-/// its first 4,096 bytes afterwards and is unchanged beyond; a shorter one is unchanged.
+/// The check of a table. Bit i of a quorum, worth 2^i, is one exactly when station i is a member. A scratch of `SCRATCH_BYTES` or more has zeros
+/// in its first `SCRATCH_BYTES` afterwards and is unchanged beyond; a shorter one is unchanged.
 pub fn check(
     stations: usize,
     stock: usize,

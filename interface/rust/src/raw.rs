@@ -1,6 +1,13 @@
 // The declarations of interface/pafluzeno.h, again.
 
+// The limits: `interface/run` holds them to those of the crates.
 pub const MOST_STATIONS: usize = 12;
+pub const MOST_UNITS: usize = 200;
+pub const MOST_QUORUMS: usize = 64;
+/// The check wants so many bytes of scratch.
+pub const SCRATCH_BYTES: usize = 4096;
+/// A page wants a buffer of so many bytes; none is longer.
+pub const PAGE_ROOM: usize = 196617;
 
 #[repr(C)]
 pub struct Checked {
