@@ -2,6 +2,7 @@
 //! part of a text stands. A text that is cut has what was cut off still behind it, so that reading on would be noticed.
 
 mod calls {
+    pub mod by_hand;
     pub mod compare;
     pub mod kinds;
     pub mod lines;
