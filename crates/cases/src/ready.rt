@@ -1,12 +1,17 @@
 // The ready-made tables: each maker's answer and table, and what the check says of the table.
 ghost use Prim.Native.Nat.{_≤_};
+ghost use Rattle.quorum.specs.Limits.{mostStations};
 use crate::report;
 use crate::table;
 
 // The entries of a buffer before a table is made: no quorum of twelve stations.
 pub(crate) const BEFORE: u16 = 65535;
 
-const ROOM: usize = 70;
+// A singleton has no k of its own: it is checked at this one.
+pub(crate) const SINGLETON_STOCK: usize = 1;
+
+// Room for every table, and some entries more.
+const ROOM: usize = quorum::MOST_QUORUMS + 6;
 
 // How many entries are as they were.
 fn kept(out: &[u16]) -> usize {
@@ -38,20 +43,19 @@ fn print_check(n: usize, k: usize, quorums: &[u16]) {
     table::print_answer(checked);
 }
 
-fn print_table(n: usize, k: usize, quorums: &[u16])
-    requires { ⌜ k ≤ 200 ⌝ }
-{
+// A table is made only for a k within the limit.
+fn print_table(n: usize, k: usize, quorums: &[u16]) {
     report::text(b" members");
     print_members(quorums);
     print_check(n, k, quorums);
-    print_check(n, k + 1, quorums);
+    if k <= quorum::MOST_UNITS {
+        print_check(n, k + 1, quorums);
+    }
 }
 
 // The answer, how many entries of the buffer are as they were, and where a table was made its quorums and the
 // check's answers at k and at k + 1.
-pub(crate) fn print_made(made: tables::Made, n: usize, k: usize, out: &[u16])
-    requires { ⌜ k ≤ 200 ⌝ }
-{
+pub(crate) fn print_made(made: tables::Made, n: usize, k: usize, out: &[u16]) {
     report::number(b" made=", made.refusal as usize);
     let quorums = made.quorums;
     report::number(b" quorums=", quorums);
@@ -66,18 +70,16 @@ pub(crate) fn print_made(made: tables::Made, n: usize, k: usize, out: &[u16])
     report::text(b"\n");
 }
 
-// The singleton of one of n stations; it has no k of its own, and is checked at 1 and 2.
+// The singleton of one of n stations.
 fn singleton(n: usize, station: usize) {
     report::number(b"singleton n=", n);
     report::number(b" station=", station);
     let mut out = [BEFORE; ROOM];
     let made = tables::singleton(n, station, &mut out);
-    print_made(made, n, 1, &out);
+    print_made(made, n, SINGLETON_STOCK, &out);
 }
 
-fn uniform(n: usize, k: usize)
-    requires { ⌜ k ≤ 200 ⌝ }
-{
+fn uniform(n: usize, k: usize) {
     report::number(b"uniform n=", n);
     report::number(b" k=", k);
     let mut out = [BEFORE; ROOM];
@@ -86,9 +88,7 @@ fn uniform(n: usize, k: usize)
 }
 
 // A cube has as many stations as quorums.
-fn cube(a: usize, k: usize)
-    requires { ⌜ k ≤ 200 ⌝ }
-{
+fn cube(a: usize, k: usize) {
     report::number(b"cube a=", a);
     report::number(b" k=", k);
     let mut out = [BEFORE; ROOM];
@@ -107,7 +107,7 @@ fn singletons_of(n: usize) {
 
 // From k = n - 1 on the one set of all stations is all that there is.
 fn uniforms_of(n: usize)
-    requires { ⌜ n ≤ 12 ⌝ }
+    requires { ⌜ n ≤ mostStations ⌝ }
 {
     let mut k: usize = 1;
     while k <= n {

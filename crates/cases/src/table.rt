@@ -4,6 +4,11 @@ use crate::report;
 // The bytes of the scratch before a check: none of them is 0.
 const BEFORE: u8 = 7;
 
+// More bytes than the check asks for, and one too few.
+const LONG: usize = quorum::SCRATCH_BYTES + 904;
+
+const SHORT: usize = quorum::SCRATCH_BYTES - 1;
+
 fn print_family(checked: quorum::Checked) {
     let size = checked.size;
     if size == 0 {
@@ -58,14 +63,14 @@ fn check_with(scratch: &mut [u8], name: &[u8], n: usize, k: usize, quorums: &[u1
     print_scratch(scratch);
 }
 
-// On 5,000 bytes of scratch, more than the check asks for.
+// On more scratch than the check asks for.
 pub(crate) fn check(name: &[u8], n: usize, k: usize, quorums: &[u16]) {
-    let mut scratch = [BEFORE; 5000];
+    let mut scratch = [BEFORE; LONG];
     check_with(&mut scratch, name, n, k, quorums);
 }
 
-// On 4,095 bytes of scratch, one byte too few.
+// On one byte too few.
 pub(crate) fn check_short(name: &[u8], n: usize, k: usize, quorums: &[u16]) {
-    let mut scratch = [BEFORE; 4095];
+    let mut scratch = [BEFORE; SHORT];
     check_with(&mut scratch, name, n, k, quorums);
 }

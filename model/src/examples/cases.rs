@@ -38,7 +38,7 @@ use Maker::{Cube, Singleton, Uniform};
 const LARGEST: usize = usize::MAX;
 
 /// Name, maker and the length of the buffer.
-const MADE: [(&str, Maker, usize); 16] = [
+const MADE: [(&str, Maker, usize); 18] = [
     ("refusal 8", Singleton(3, 3), 3),
     ("refusal 16", Singleton(3, 1), 0),
     ("refusal 17", Cube(2, 3), 3),
@@ -53,9 +53,14 @@ const MADE: [(&str, Maker, usize); 16] = [
     ("large a", Cube(LARGEST, 200), 3),
     ("large power", Cube(2, 200), 3),
     ("large station", Singleton(12, LARGEST), 3),
+    ("uniform of the largest k", Uniform(3, 200), 3),
+    ("cube of the largest k", Cube(1, 200), 3),
     ("four in three", Uniform(4, 2), 3),
     ("three in three", Uniform(3, 1), 3),
 ];
+
+/// A singleton has no k of its own: it is checked at this one.
+const SINGLETON_STOCK: usize = 1;
 
 /// What stands in a buffer before a table is made, and in a scratch before a check.
 const ENTRY_BEFORE: u16 = 65535;
@@ -84,14 +89,6 @@ fn table_line(table: &Table) -> String {
     format!("{name}{} zeros={zeros} kept={kept}\n", answer(&checked))
 }
 
-fn make(maker: Maker) -> Made {
-    match maker {
-        Singleton(n, station) => singleton(n, station),
-        Uniform(n, k) => uniform(n, k),
-        Cube(a, k) => cube(a, k),
-    }
-}
-
 /// What the maker answers, what is in the buffer afterwards, and the check of the table at k and k + 1.
 fn made_line(made: &Made, room: usize, n: usize, k: usize) -> String {
     let mut out = vec![ENTRY_BEFORE; room];
@@ -112,20 +109,25 @@ fn made_line(made: &Made, room: usize, n: usize, k: usize) -> String {
 
 /// P10: the first quorum of the cube of 3 and 1, and the number of its members.
 fn p10() -> String {
-    let made = cube(3, 1);
-    let first = made.as_ref().expect("P10 is a table")[0];
+    let first = cube(3, 1).expect("P10 is a table")[0];
     let count = members(first).len();
-    let line = made_line(&made, 9, 9, 1);
+    let line = maker_line(Cube(3, 1), 9);
     format!("P10 quorum={first} count={count}{line}")
 }
 
-/// These tables are checked at 1 and 2; those that are refused are not checked.
-fn named_line(name: &str, maker: Maker, room: usize) -> String {
-    let n = match maker {
-        Singleton(n, _) | Uniform(n, _) => n,
-        Cube(_, _) => 1,
-    };
-    format!("{name}{}", made_line(&make(maker), room, n, 1))
+/// A cube has as many stations as quorums.
+fn cube_line(a: usize, k: usize, room: usize) -> String {
+    let made = cube(a, k);
+    let n = made.as_ref().map_or(0, Vec::len);
+    made_line(&made, room, n, k)
+}
+
+fn maker_line(maker: Maker, room: usize) -> String {
+    match maker {
+        Singleton(n, station) => made_line(&singleton(n, station), room, n, SINGLETON_STOCK),
+        Uniform(n, k) => made_line(&uniform(n, k), room, n, k),
+        Cube(a, k) => cube_line(a, k, room),
+    }
 }
 
 /// Room for every table, and some entries more.
@@ -136,19 +138,18 @@ fn all_lines() -> String {
     let mut lines = String::new();
     for n in 1..=MOST_STATIONS {
         for station in 0..n {
-            let line = made_line(&singleton(n, station), ROOM, n, 1);
+            let line = maker_line(Singleton(n, station), ROOM);
             lines += &format!("singleton n={n} station={station}{line}");
         }
         for k in 1..=n {
-            let line = made_line(&uniform(n, k), ROOM, n, k);
+            let line = maker_line(Uniform(n, k), ROOM);
             lines += &format!("uniform n={n} k={k}{line}");
         }
     }
     for a in 0..=4 {
         for k in 1..=3 {
-            let made = cube(a, k);
-            let n = made.as_ref().map_or(0, Vec::len);
-            lines += &format!("cube a={a} k={k}{}", made_line(&made, ROOM, n, k));
+            let line = maker_line(Cube(a, k), ROOM);
+            lines += &format!("cube a={a} k={k}{line}");
         }
     }
     lines
@@ -158,7 +159,7 @@ pub fn output() -> String {
     let mut lines: String = TABLES.iter().map(table_line).collect();
     lines += &p10();
     for (name, maker, room) in MADE {
-        lines += &named_line(name, maker, room);
+        lines += &format!("{name}{}", maker_line(maker, room));
     }
     lines + &all_lines()
 }

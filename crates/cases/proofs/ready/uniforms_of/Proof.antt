@@ -2,11 +2,12 @@
 -- Assumes nothing.
 use Prim.Native.Nat.{_+_, _-_, _≤_}
 use borrow.Author.Needs.{needs}
+use Rattle.quorum.specs.Limits.{mostStations}
 use Rattle.cases.proofs.ready.uniforms_of.Statement.{statement}
 use Rattle.cases.proofs.ready.uniforms_of.Tie as tie
 
 abbrev Inv-loop : tie.InvT-loop
-Inv-loop n k₀ k = (k ≤ n + 1) × (n ≤ 12)
+Inv-loop n k₀ k = (k ≤ n + 1) × (n ≤ mostStations)
 
 abbrev μ-loop : tie.MeasureT-loop
 μ-loop n k₀ k = n + 1 - k
