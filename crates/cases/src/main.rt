@@ -1,6 +1,7 @@
 // Runs the examples of document 01 and prints what each answers, one line an example.
 mod makers;
 mod marked;
+mod order;
 mod ready;
 mod refusals;
 mod report;
@@ -9,6 +10,7 @@ mod table;
 fn main() {
     marked::tables();
     refusals::tables();
+    order::tables();
     makers::tables();
     ready::tables();
 }

@@ -15,8 +15,15 @@ fn five_to_seven() {
     table::check(b"refusal 7", 2, 1, &[1, 3]);
 }
 
+// A nested table has its width, and is not even, though here all stations belong to equally many quorums.
+fn nested() {
+    table::check(b"nested 3 5 6 7", 3, 1, &[3, 5, 6, 7]);
+    table::check(b"nested 1 1", 1, 1, &[1, 1]);
+}
+
 // The check's own, 1 to 7.
 pub(crate) fn tables() {
     one_to_four();
     five_to_seven();
+    nested();
 }

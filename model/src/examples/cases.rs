@@ -6,7 +6,14 @@ use crate::table::{check, members, scratch_after, Checked, MOST_STATIONS, SCRATC
 /// Name, n, k and quorums of a table, and the bytes of scratch.
 type Table = (&'static str, usize, usize, &'static [u16], usize);
 
-const TABLES: [Table; 16] = [
+/// One quorum too many, and the first names a station that is not there.
+const TOO_MANY: [u16; 65] = {
+    let mut quorums = [7; 65];
+    quorums[0] = 8;
+    quorums
+};
+
+const TABLES: [Table; 23] = [
     ("P1", 1, 1, &[1], 5000),
     ("P2", 3, 1, &[3, 5, 6], 5000),
     ("P3", 3, 2, &[3, 5, 6], 5000),
@@ -23,6 +30,13 @@ const TABLES: [Table; 16] = [
     ("refusal 5", 3, 1, &[3, 5, 6], 4095),
     ("refusal 6", 2, 5, &[1, 2], 5000),
     ("refusal 7", 2, 1, &[1, 3], 5000),
+    ("nested 3 5 6 7", 3, 1, &[3, 5, 6, 7], 5000),
+    ("nested 1 1", 1, 1, &[1, 1], 5000),
+    ("check 1 before 2", 13, 0, &[1], 5000),
+    ("check 2 before 3", 1, 201, &[], 5000),
+    ("check 3 before 4", 3, 1, &TOO_MANY, 5000),
+    ("check 4 before 5", 3, 1, &[8], 4095),
+    ("check 5 before 6", 2, 5, &[1, 2], 4095),
 ];
 
 /// A maker and its arguments.
