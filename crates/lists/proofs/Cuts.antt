@@ -63,6 +63,12 @@ module _ {A : Type 0} (d : A) where
   cut-all [] = refl
   cut-all (x ∷ xs) = ap (λ (r : List A). x ∷ r) (cut-all xs)
 
+  -- a list, filled up to m places, of which as many are in use as it has elements
+  pub cut-filled : (xs : List A) (m : ℕ) → length xs ≤ m → cut d (length xs) (cut d m xs) ≡ xs
+  cut-filled [] m h = refl
+  cut-filled (x ∷ xs) zero h = absurd (not-suc-le-zero h)
+  cut-filled (x ∷ xs) (suc m) h = ap (λ (r : List A). x ∷ r) (cut-filled xs m (le-of-suc-le-suc h))
+
   -- an array that has what another has `by` places on
   pub cut-moved : (m by : ℕ) (ys xs : List A) → ((i : ℕ) → i < m → getD ys i d ≡ getD xs (i + by) d) → cut d m ys ≡ drop by (cut d (m + by) xs)
   cut-moved m by ys xs h =

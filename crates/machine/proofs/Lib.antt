@@ -13,7 +13,8 @@ pub mod OpeningRecord
 pub mod PerformingCalls
 pub mod GoingOn
 pub mod PerformingList
+pub mod AnswerWords
 pub mod LendingArbiter
 pub mod LendingExamples
-pub mod Tracing
-pub mod Claim
+pub mod ReturningCall
+pub mod StartingRecord

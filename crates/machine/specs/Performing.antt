@@ -1,11 +1,11 @@
 -- A lent list of calls, as numbers, and the numbers that answer it.
 use mathlib.Core.Bool.{Bool, true, false, cond, not, _&&_, _||_}
 use mathlib.Core.List.{List, [], _∷_, _++_}
-use Prim.Native.Nat.{ℕ, _*_, _≤_}
+use Prim.Native.Nat.{ℕ, _*_}
 use lib.Dec.{eqb, ltb}
 use lib.ListN.{length, drop}
 use Rattle.plain.specs.Answer.{Answer}
-use Rattle.plain.specs.Run.{Call, run, after, Difference}
+use Rattle.plain.specs.Run.{Call, run, after}
 use Rattle.plain.specs.State.{State}
 use Rattle.records.specs.View.{view}
 use Rattle.machine.specs.declared.Performed.{Performed}
@@ -59,7 +59,3 @@ answersIn st calls out =
 -- what the code's answer says
 unfoldable pub performedOf : Performed → Performance
 performedOf p = record { refusal = p .refusal; state = view (p .«record») }
-
--- "units entered less units left stay in 0..k"
-abbrev pub Within : ℕ → List Answer → Type 0
-Within k answers = (d : ℕ) × (d ≤ k) × Difference answers d

@@ -1,7 +1,6 @@
 // The machine that the stations run, on a record by value.
 ghost use mathlib.Core.Path.{_≡_};
-ghost use mathlib.Core.List.{List};
-ghost use Prim.Native.Nat.{ℕ, _<_};
+ghost use Prim.Native.Nat.{_<_};
 ghost use lib.ListN.{length};
 ghost use Rattle.plain.specs.Answer.{refused as refusedBy};
 ghost use Rattle.plain.specs.Down.{down as downOf};
@@ -10,13 +9,12 @@ ghost use Rattle.plain.specs.Request.{request as requestOf};
 ghost use Rattle.plain.specs.Up.{up as upOf};
 ghost use Rattle.plain.specs.Run.{run};
 ghost use Rattle.plain.specs.State.{fresh};
-ghost use Rattle.quorum.specs.Accepted.{Accepted};
 ghost use Rattle.quorum.specs.Answer.{said, answer};
 ghost use Rattle.quorum.specs.Scratch.{cleaned};
 ghost use Rattle.records.specs.View.{view};
 ghost use Rattle.machine.specs.Answers.{answerOf};
 ghost use Rattle.machine.specs.Opening.{opening, openedOf};
-ghost use Rattle.machine.specs.Performing.{callsOf, performance, performedOf, answersIn, Within};
+ghost use Rattle.machine.specs.Performing.{performance, performedOf, answersIn};
 use quorum::Checked;
 use records::Arbiter;
 use records::Record;
@@ -209,7 +207,6 @@ pub fn perform(r: Record, calls: &[u16], answers: &mut [u16]) -> Performed
     ensures performed { λ p. ⌜ performedOf p ≡ performance (view r) (now (calls .entry)) (length (now (answers .entry))) ⌝ }
     ensures refused { λ p. ⌜ (0 < p .refusal → p .«record» ≡ r) ⌝ }
     ensures answers { λ _. ⌜ now (answers .exit) ≡ answersIn (view r) (now (calls .entry)) (now (answers .entry)) ⌝ }
-    ensures claim { λ _. ⌜ ((n k : ℕ) (table : List ℕ) → Accepted n k table → view r ≡ fresh n k table → Within k (run (fresh n k table) (callsOf (now (calls .entry))))) ⌝ }
 {
     if !call_lists::all_formed(calls) {
         return Performed {

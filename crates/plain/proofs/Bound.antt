@@ -19,7 +19,7 @@ use Rattle.quorum.specs.Width.{lacksCommon}
 use Rattle.quorum.proofs.Promises.{common-member}
 use Rattle.plain.specs.InRange.{phaseIn}
 use Rattle.plain.specs.Release.{held}
-use Rattle.plain.specs.Run.{Call, run, after, Difference}
+use Rattle.plain.specs.Run.{Call, run, after, WithinStock}
 use Rattle.plain.specs.State.{State, fresh}
 use Rattle.plain.specs.declared.Phase.{Phase}
 use Rattle.plain.specs.declared.Phase.the-variants.{Idle, Collecting, Holding}
@@ -107,7 +107,7 @@ module _ (st : State) (range : Ranged st) (inv : Invariant st) where
 
 -- "from any fresh record of an accepted table .. units entered less units left stay in 0..k": for every n, k and table that is accepted
 -- and every list of calls, the difference is a number d of at most k
-pub bounded : (n k : ℕ) (table : List ℕ) → Accepted n k table → (calls : List Call) → (d : ℕ) × (d ≤ k) × Difference (run (fresh n k table) calls) d
+pub bounded : (n k : ℕ) (table : List ℕ) → Accepted n k table → (calls : List Call) → WithinStock k (run (fresh n k table) calls)
 unfolding fresh
 bounded n k table accepted calls =
     let end = after (fresh n k table) calls in

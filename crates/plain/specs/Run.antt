@@ -1,7 +1,7 @@
 -- Whole lists of calls.
 use mathlib.Core.List.{List, [], _∷_}
 use mathlib.Core.Path.{_≡_}
-use Prim.Native.Nat.{ℕ, _+_}
+use Prim.Native.Nat.{ℕ, _+_, _≤_}
 use Rattle.plain.specs.Answer.{Answer}
 use Rattle.plain.specs.Down.{down}
 use Rattle.plain.specs.Release.{release}
@@ -46,3 +46,7 @@ left (a ∷ answers) = a .left + left answers
 -- "The difference is the sum of the units entered in all answers less the sum of the units left in all answers": it is d
 abbrev pub Difference : List Answer → ℕ → Type 0
 Difference answers d = entered answers ≡ left answers + d
+
+-- "all units entered less all units left lie between 0 and k"
+abbrev pub WithinStock : ℕ → List Answer → Type 0
+WithinStock k answers = (d : ℕ) × (d ≤ k) × Difference answers d

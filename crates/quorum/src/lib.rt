@@ -136,6 +136,6 @@ pub fn check(n: usize, k: usize, quorums: &[u16], scratch: &mut [u8]) -> Checked
         return refused(refusals::SHORT_SCRATCH);
     }
     let checked = judge(n, k, quorums, scratch);
-    scratch::clean(scratch, SCRATCH_BYTES);
+    scratch::clean(scratch, SCRATCH_BYTES); // what judging left in it
     checked
 }

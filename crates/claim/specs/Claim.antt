@@ -1,0 +1,64 @@
+-- Demand 3, the one claim over whole lists of calls, in its parts.
+use mathlib.Core.List.{List, [], _∷_, map}
+use mathlib.Core.Path.{_≡_}
+use Prim.Native.Nat.{ℕ, _+_, _*_, _≤_}
+use lib.ListN.{length, take}
+use contract.Lifetimes.{Lfts}
+use denote.Ref.{RefT}
+use Rattle.quorum.specs.Scratch.{scratchBytes}
+use Rattle.plain.specs.Run.{Call, run, Difference, WithinStock}
+use Rattle.plain.specs.State.{fresh}
+use Rattle.records.specs.View.{view}
+use Rattle.records.specs.declared.Record.{Record}
+use Rattle.machine.specs.Answers.{answerOf}
+use Rattle.machine.specs.Performing.{callsOf}
+use Rattle.machine.specs.declared.Answer.{Answer}
+use Rattle.machine.specs.declared.Opened.{Opened}
+use Rattle.machine.specs.declared.Performed.{Performed}
+use Rattle.machine.proofs.open.Reads as open-reads
+use Rattle.machine.proofs.perform.Reads as perform-reads
+use Rattle.claim.specs.Trace.{Trace}
+
+-- the units entered in the answers that these numbers are, three numbers an answer: refusal, units entered, units left
+unfoldable pub unitsEntered : List ℕ → ℕ
+unitsEntered [] = 0
+unitsEntered (refusal ∷ []) = 0
+unitsEntered (refusal ∷ entered ∷ []) = 0
+unitsEntered (refusal ∷ entered ∷ left ∷ numbers) = entered + unitsEntered numbers
+
+-- and the units left
+unfoldable pub unitsLeft : List ℕ → ℕ
+unitsLeft [] = 0
+unitsLeft (refusal ∷ []) = 0
+unitsLeft (refusal ∷ entered ∷ []) = 0
+unitsLeft (refusal ∷ entered ∷ left ∷ numbers) = left + unitsLeft numbers
+
+-- in these numbers, the units entered less the units left lie between 0 and k
+abbrev pub NumbersWithin : ℕ → List ℕ → Type 0
+NumbersWithin k numbers = (d : ℕ) × (d ≤ k) × (unitsEntered numbers ≡ unitsLeft numbers + d)
+
+module _ (n k : ℕ) (table : List ℕ) where
+  -- (a) "For every such list, each call's whole answer, with refusal, units entered, units left and record, is equal to that of document 01's
+  -- plain machine given the same list, and after the list all units entered less all units left lie between 0 and k." The list starts
+  -- "from any fresh record of that table", whatever its unused places hold.
+  abbrev pub EveryList : Type 0
+  EveryList = (r : Record) (calls : List Call) (answers : List Answer) → view r ≡ fresh n k table → Trace r calls answers
+      → (map answerOf answers ≡ run (fresh n k table) calls) × WithinStock k (map answerOf answers)
+
+  -- The same of a lent list of calls that `perform` does not refuse, and of the numbers that it wrote: `written` are the lent answers afterwards,
+  -- three numbers a call.
+  abbrev pub Performs : Type 0
+  Performs = (r : Record) (calls answers written : RefT (List ℕ)) (performed : Performed) (κs : Lfts 2)
+      → perform-reads.Learnt κs (r, (calls, (answers, tt))) performed (r, (calls, (written, tt)))
+      → view r ≡ fresh n k table → performed .refusal ≡ 0
+      → NumbersWithin k (take (3 * length (callsOf (calls .now))) (written .now))
+
+  -- (b) "opening, lent enough scratch, gives one": a call of `open` on the table; `left` is the scratch afterwards
+  abbrev pub Opens : Type 0
+  Opens = (quorums scratch left : RefT (List ℕ)) (opened : Opened) (κs : Lfts 2)
+      → open-reads.Learnt κs (n, (k, (quorums, (scratch, tt)))) opened (n, (k, (quorums, (left, tt))))
+      → quorums .now ≡ table → scratchBytes ≤ length (scratch .now) → (opened .refusal ≡ 0) × (view (opened .«record») ≡ fresh n k table)
+
+  -- (c) "the plain machine, started on it unchecked, has a list of such calls after which that difference, in its own answers, is k + 1"
+  abbrev pub Exceeds : Type 0
+  Exceeds = (calls : List Call) × Difference (run (fresh n k table) calls) (k + 1)

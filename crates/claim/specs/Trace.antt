@@ -1,0 +1,23 @@
+-- The answers that the program's own functions give to a list of calls, each on the record that the one before returned.
+use mathlib.Core.List.{List, [], _∷_}
+use Rattle.plain.specs.Run.{Call}
+use Rattle.records.specs.declared.Record.{Record}
+use Rattle.machine.specs.declared.Answer.{Answer}
+use Rattle.machine.proofs.down.Reads as down
+use Rattle.machine.proofs.release.Reads as release
+use Rattle.machine.proofs.request.Reads as request
+use Rattle.machine.proofs.up.Reads as up
+
+-- What the checker has learnt of a call of an exported function: its contract in the source, and nothing else. Arguments by value are the
+-- same at the call and at its end.
+abbrev pub LearntOf : Record → Call → Answer → Type 0
+LearntOf r (Call.Request s q h) a = request.Learnt tt (r, (s, (q, (h, tt)))) a (r, (s, (q, (h, tt))))
+LearntOf r (Call.Up s j) a = up.Learnt tt (r, (s, (j, tt))) a (r, (s, (j, tt)))
+LearntOf r (Call.Down s j) a = down.Learnt tt (r, (s, (j, tt))) a (r, (s, (j, tt)))
+LearntOf r (Call.Release s) a = release.Learnt tt (r, (s, tt)) a (r, (s, tt))
+
+-- "each later call gets the record that the one before it returned"
+pub data Trace : Record → List Call → List Answer → Type 0 where
+  none : {r : Record} → Trace r [] []
+  answered : {r : Record} {c : Call} {a : Answer} {calls : List Call} {answers : List Answer}
+      → LearntOf r c a → Trace (a .«record») calls answers → Trace r (c ∷ calls) (a ∷ answers)
