@@ -47,6 +47,9 @@ pub grants-taken :
     ∷ taken-from (Collecting 0 1 2) 0 0
     ∷ taken-from Idle 0 0
     ∷ taken-from (Holding 0 1) 0 0
+    -- and no REQUEST goes up to 2, where it would go if the station collected from 0
+    ∷ taken-from (Collecting 0 1 2) 0 2
+    ∷ taken-from (Holding 0 1) 0 2
     -- only the oldest of two is taken
     ∷ seen 1 0 (down (with-down 1 0 (Grant ∷ (Grant ∷ [])) two-quorums) 1 0)
     -- no place for REQUEST: nothing changes
@@ -57,6 +60,8 @@ pub grants-taken :
     ∷ record { answer = done; phase = Collecting 0 1 2; granted = 0; line = []; up = Request 1 ∷ []; down = [] }
     ∷ record { answer = done; phase = Collecting 0 1 2; granted = 0; line = []; up = []; down = [] }
     ∷ record { answer = done; phase = Idle; granted = 0; line = []; up = []; down = [] }
+    ∷ record { answer = done; phase = Holding 0 1; granted = 0; line = []; up = []; down = [] }
+    ∷ record { answer = done; phase = Collecting 0 1 2; granted = 0; line = []; up = []; down = [] }
     ∷ record { answer = done; phase = Holding 0 1; granted = 0; line = []; up = []; down = [] }
     ∷ record { answer = done; phase = Idle; granted = 0; line = []; up = []; down = Grant ∷ [] }
     ∷ record { answer = refuses 14; phase = Collecting 0 1 0; granted = 0; line = []; up = Release ∷ (Release ∷ (Release ∷ (Release ∷ []))); down = [] }

@@ -21,3 +21,4 @@ mod Cleaning
 mod Taking
 mod Judging
 mod AnswerBounds
+mod CheckExamples
