@@ -105,8 +105,8 @@ module _ (st : State) (range : Ranged st) (inv : Invariant st) where
       let all = total-within (st .arbiter (c .station) .granted) (suc i) (st .n) h in
       omega (arith, granted, all, inv .stock (c .station))
 
--- "from any fresh record of an accepted table .. units entered less units left stay in 0..k": for every n, k and table that is accepted
--- and every list of calls, the difference is a number d of at most k
+-- "after the list all units entered less all units left lie between 0 and k": for every n, k and table that is accepted and every list of
+-- calls from the fresh state
 pub bounded : (n k : ℕ) (table : List ℕ) → Accepted n k table → (calls : List Call) → WithinStock k (run (fresh n k table) calls)
 unfolding fresh
 bounded n k table accepted calls =

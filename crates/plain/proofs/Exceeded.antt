@@ -111,7 +111,7 @@ module _ (n k : ℕ) (table : List ℕ) (kept : brokenLimit n k table ≡ 0) (la
           (family .numbers) (omega (arith, family .stations)) (omega (arith, family .few)) in
           omega (arith, held, total-none (λ s. 0) n (λ s l. refl))
 
-  -- "for every table refused for lack of a common member the plain machine has a list that reaches k + 1": for every n, k and table that
-  -- passes 1 to 4 and fails 6, the list that `exceeding` makes from it leads from the fresh state to the difference k + 1
+  -- "the plain machine, started on it unchecked, has a list of such calls after which that difference, in its own answers, is k + 1": for
+  -- every n, k and table that passes 1 to 4 and fails 6, the list that `exceeding` makes from it
   pub exceeded : Difference (run (fresh n k table) (exceeding n k table)) (k + 1)
   exceeded = difference-held n k table (exceeding n k table) ∙ ap (λ (d : ℕ). left (run (fresh n k table) (exceeding n k table)) + d) all-held
