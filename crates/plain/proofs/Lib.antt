@@ -25,4 +25,3 @@ pub mod ServiceExamples
 pub mod StationExamples
 pub mod RefusalExamples
 pub mod RangeExamples
-pub mod ExceedingExample
