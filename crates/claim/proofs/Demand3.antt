@@ -3,24 +3,24 @@
 use mathlib.Core.Bool.{true}
 use mathlib.Core.List.{List}
 use mathlib.Core.Path.{_≡_, sym, ap, _∙_}
-use Prim.Native.Nat.{ℕ}
-use lib.ListN.{length}
+use Prim.Native.Nat.{ℕ, _*_}
+use lib.ListN.{length, take}
 use Rattle.quorum.specs.Accepted.{Accepted}
 use Rattle.quorum.specs.Limits.{brokenLimit}
 use Rattle.quorum.specs.Width.{lacksCommon}
 use Rattle.quorum.proofs.Promises.{passes}
 use Rattle.plain.specs.Exceeding.{exceeding}
-use Rattle.plain.specs.Run.{run, WithinStock}
-use Rattle.plain.specs.State.{State}
+use Rattle.plain.specs.Run.{run}
+use Rattle.plain.specs.State.{State, fresh}
 use Rattle.plain.proofs.Bound.{bounded}
 use Rattle.plain.proofs.Exceeded.{exceeded}
 use Rattle.records.specs.View.{view}
 use Rattle.machine.specs.Opening.{opening}
-use Rattle.machine.specs.Performing.{Performance, callsOf, performance, performedOf}
+use Rattle.machine.specs.Performing.{Performance, callsOf, wordsOf, performance, performedOf}
 use Rattle.machine.proofs.OpeningRecord.{opened-fresh}
 use Rattle.claim.specs.Claim.{EveryList, Opens, Performs, Exceeds}
 use Rattle.claim.proofs.Tracing.{trace-runs}
-use Rattle.claim.proofs.WrittenNumbers.{written-within}
+use Rattle.claim.proofs.WrittenNumbers.{words-within, written-front}
 
 module _ (n k : ℕ) (table : List ℕ) where
   every-list : Accepted n k table → EveryList n k table
@@ -30,10 +30,12 @@ module _ (n k : ℕ) (table : List ℕ) where
 
   performs : Accepted n k table → Performs n k table
   unfolding performedOf performance
-  performs a r calls answers written performed κs learnt start done =
+  performs a r calls answers written performed κs learnt start done numbers are =
       let none = sym (ap (λ (p : Performance). p .refusal) (learnt .0)) ∙ done in
-      let within : WithinStock k (run (view r) (callsOf (calls .now))) = rw start (bounded n k table a (callsOf (calls .now))) in
-      rw (learnt .1 .1) (written-within k (view r) (calls .now) (answers .now) none within)
+      let same : numbers ≡ wordsOf (run (fresh n k table) (callsOf (calls .now))) =
+      are ∙ ap (take (3 * length (callsOf (calls .now)))) (learnt .1 .1) ∙ written-front (view r) (calls .now) (answers .now) none
+      ∙ ap (λ (st : State). wordsOf (run st (callsOf (calls .now)))) start in
+      (same, rw same (words-within k (run (fresh n k table) (callsOf (calls .now))) (bounded n k table a (callsOf (calls .now)))))
 
   opens : Accepted n k table → Opens n k table
   opens a quorums scratch left opened κs learnt lent room =

@@ -23,16 +23,13 @@ unfolding wordsOf unitsLeft left
 words-left [] = refl
 words-left (a ∷ answers) = ap (λ (x : ℕ). a .left + x) (words-left answers)
 
-words-within : (k : ℕ) (answers : List Answer) → WithinStock k answers → NumbersWithin k (wordsOf answers)
+pub words-within : (k : ℕ) (answers : List Answer) → WithinStock k answers → NumbersWithin k (wordsOf answers)
 words-within k answers w = (w .0, w .1, words-entered answers ∙ w .2 ∙ ap (λ (l : ℕ). l + w .0) (sym (words-left answers)))
 
 -- of a list that is not refused the numbers of its answers are the front of what was lent
-module _ (k : ℕ) (st : State) (calls out : List ℕ) (none : listRefusal calls (length out) ≡ 0) where
-  front : take (3 * length (callsOf calls)) (answersIn st calls out) ≡ wordsOf (run st (callsOf calls))
-  unfolding answersIn
-  front =
-      rw none (take-at (wordsOf (run st (callsOf calls))) (drop (3 * length (callsOf calls)) out) (3 * length (callsOf calls))
-      (words-length (run st (callsOf calls)) ∙ ap (λ (l : ℕ). 3 * l) (run-length st (callsOf calls))))
-
-  pub written-within : WithinStock k (run st (callsOf calls)) → NumbersWithin k (take (3 * length (callsOf calls)) (answersIn st calls out))
-  written-within w = rw front (words-within k (run st (callsOf calls)) w)
+pub written-front : (st : State) (calls out : List ℕ) → listRefusal calls (length out) ≡ 0
+    → take (3 * length (callsOf calls)) (answersIn st calls out) ≡ wordsOf (run st (callsOf calls))
+unfolding answersIn
+written-front st calls out none =
+    rw none (take-at (wordsOf (run st (callsOf calls))) (drop (3 * length (callsOf calls)) out) (3 * length (callsOf calls))
+    (words-length (run st (callsOf calls)) ∙ ap (λ (l : ℕ). 3 * l) (run-length st (callsOf calls))))

@@ -11,7 +11,7 @@ use Rattle.plain.specs.State.{fresh}
 use Rattle.records.specs.View.{view}
 use Rattle.records.specs.declared.Record.{Record}
 use Rattle.machine.specs.Answers.{answerOf}
-use Rattle.machine.specs.Performing.{callsOf}
+use Rattle.machine.specs.Performing.{callsOf, wordsOf}
 use Rattle.machine.specs.declared.Answer.{Answer}
 use Rattle.machine.specs.declared.Opened.{Opened}
 use Rattle.machine.specs.declared.Performed.{Performed}
@@ -45,13 +45,14 @@ module _ (n k : ℕ) (table : List ℕ) where
   EveryList = (r : Record) (calls : List Call) (answers : List Answer) → view r ≡ fresh n k table → Trace r calls answers
       → (map answerOf answers ≡ run (fresh n k table) calls) × WithinStock k (map answerOf answers)
 
-  -- The same of a lent list of calls that `perform` does not refuse, and of the numbers that it wrote: `written` are the lent answers afterwards,
-  -- three numbers a call.
+  -- The same of a lent list of calls that `perform` does not refuse, and of the numbers that it wrote, three a call; `written` are the lent
+  -- answers afterwards.
   abbrev pub Performs : Type 0
   Performs = (r : Record) (calls answers written : RefT (List ℕ)) (performed : Performed) (κs : Lfts 2)
       → perform-reads.Learnt κs (r, (calls, (answers, tt))) performed (r, (calls, (written, tt)))
       → view r ≡ fresh n k table → performed .refusal ≡ 0
-      → NumbersWithin k (take (3 * length (callsOf (calls .now))) (written .now))
+      → (numbers : List ℕ) → numbers ≡ take (3 * length (callsOf (calls .now))) (written .now)
+      → (numbers ≡ wordsOf (run (fresh n k table) (callsOf (calls .now)))) × NumbersWithin k numbers
 
   -- (b) "opening, lent enough scratch, gives one": a call of `open` on the table; `left` is the scratch afterwards
   abbrev pub Opens : Type 0

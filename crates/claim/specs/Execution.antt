@@ -1,4 +1,4 @@
--- A list of calls, run by the machine of the logic: the definition of what the compiled functions are held to.
+-- A list of calls, run by the machine of the logic, which is the definition of what a Rattle program does.
 use mathlib.Core.List.{List, [], _∷_, map}
 use Prim.Native.Nat.{ℕ, zero, suc, _<_, _^_}
 use mir.Syntax.{w64}
