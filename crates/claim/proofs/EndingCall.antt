@@ -13,24 +13,24 @@ use Rattle.records.specs.declared.Record.{Record}
 use Rattle.records.proofs.Record.{the-row as the-record}
 use Rattle.records.proofs.Record as record-type
 use Rattle.records.proofs.Record.Laws as record-laws
-use Rattle.machine.specs.declared.Answer.{Answer}
+use Rattle.calls.specs.declared.Answer.{Answer}
+use Rattle.calls.proofs.down.Kinds as down-kinds
+use Rattle.calls.proofs.down.Met as down-met
+use Rattle.calls.proofs.down.Reads as down
+use Rattle.calls.proofs.down.Symbol as down-code
+use Rattle.calls.proofs.release.Kinds as release-kinds
+use Rattle.calls.proofs.release.Met as release-met
+use Rattle.calls.proofs.release.Reads as release
+use Rattle.calls.proofs.release.Symbol as release-code
+use Rattle.calls.proofs.request.Kinds as request-kinds
+use Rattle.calls.proofs.request.Met as request-met
+use Rattle.calls.proofs.request.Reads as request
+use Rattle.calls.proofs.request.Symbol as request-code
+use Rattle.calls.proofs.up.Kinds as up-kinds
+use Rattle.calls.proofs.up.Met as up-met
+use Rattle.calls.proofs.up.Reads as up
+use Rattle.calls.proofs.up.Symbol as up-code
 use Rattle.machine.proofs.ReturningCall.{Had, 𝓡₀, number-had, returns}
-use Rattle.machine.proofs.down.Kinds as down-kinds
-use Rattle.machine.proofs.down.Met as down-met
-use Rattle.machine.proofs.down.Reads as down
-use Rattle.machine.proofs.down.Symbol as down-code
-use Rattle.machine.proofs.release.Kinds as release-kinds
-use Rattle.machine.proofs.release.Met as release-met
-use Rattle.machine.proofs.release.Reads as release
-use Rattle.machine.proofs.release.Symbol as release-code
-use Rattle.machine.proofs.request.Kinds as request-kinds
-use Rattle.machine.proofs.request.Met as request-met
-use Rattle.machine.proofs.request.Reads as request
-use Rattle.machine.proofs.request.Symbol as request-code
-use Rattle.machine.proofs.up.Kinds as up-kinds
-use Rattle.machine.proofs.up.Met as up-met
-use Rattle.machine.proofs.up.Reads as up
-use Rattle.machine.proofs.up.Symbol as up-code
 use Rattle.claim.specs.Execution.{IsRecord, IsAnswer, argumentsOf, Fit, Gives}
 use Rattle.claim.specs.Trace.{LearntOf}
 

@@ -11,9 +11,9 @@ use denote.Steps.{only}
 use denote.Struct.Laws.{tells, owed}
 use Rattle.plain.specs.Run.{Call}
 use Rattle.records.specs.declared.Record.{Record}
-use Rattle.machine.specs.declared.Answer.{Answer}
-use Rattle.machine.proofs.Answer as answer-type
-use Rattle.machine.proofs.Answer.Laws as answer-laws
+use Rattle.calls.specs.declared.Answer.{Answer}
+use Rattle.calls.proofs.Answer as answer-type
+use Rattle.calls.proofs.Answer.Laws as answer-laws
 use Rattle.claim.specs.Execution.{IsRecord, IsAnswer, AreAnswers, routineOf, argumentsOf, AllFit, recordOf, Execution}
 use Rattle.claim.specs.Trace.{Trace}
 use Rattle.claim.proofs.EndingCall.{call-ends}

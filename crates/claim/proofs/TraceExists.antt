@@ -13,8 +13,8 @@ use Rattle.plain.specs.Run.{Call, run, WithinStock}
 use Rattle.plain.specs.State.{fresh}
 use Rattle.records.specs.View.{view}
 use Rattle.records.specs.declared.Record.{Record}
-use Rattle.machine.specs.Answers.{answerOf}
-use Rattle.machine.specs.declared.Answer.{Answer}
+use Rattle.calls.specs.Answers.{answerOf}
+use Rattle.calls.specs.declared.Answer.{Answer}
 use Rattle.machine.proofs.StartingRecord.{fresh-held}
 use Rattle.claim.specs.Execution.{IsRecord, AreAnswers, AllFit, Execution}
 use Rattle.claim.specs.Trace.{Trace}

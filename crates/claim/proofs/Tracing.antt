@@ -6,8 +6,8 @@ use Rattle.plain.specs.Answer.{Answer as PlainAnswer}
 use Rattle.plain.specs.Run.{Call, call, run}
 use Rattle.records.specs.View.{view}
 use Rattle.records.specs.declared.Record.{Record}
-use Rattle.machine.specs.Answers.{answerOf}
-use Rattle.machine.specs.declared.Answer.{Answer}
+use Rattle.calls.specs.Answers.{answerOf}
+use Rattle.calls.specs.declared.Answer.{Answer}
 use Rattle.claim.specs.Trace.{LearntOf, Trace}
 
 -- a call's own contract says that its answer is the plain machine's

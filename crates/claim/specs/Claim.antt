@@ -10,9 +10,9 @@ use Rattle.plain.specs.Run.{Call, run, Difference, WithinStock}
 use Rattle.plain.specs.State.{fresh}
 use Rattle.records.specs.View.{view}
 use Rattle.records.specs.declared.Record.{Record}
-use Rattle.machine.specs.Answers.{answerOf}
+use Rattle.calls.specs.Answers.{answerOf}
+use Rattle.calls.specs.declared.Answer.{Answer}
 use Rattle.machine.specs.Performing.{callsOf, wordsOf}
-use Rattle.machine.specs.declared.Answer.{Answer}
 use Rattle.machine.specs.declared.Opened.{Opened}
 use Rattle.machine.specs.declared.Performed.{Performed}
 use Rattle.machine.proofs.open.Reads as open-reads

@@ -9,12 +9,12 @@ use denote.Laws.{Is}
 use Rattle.plain.specs.Run.{Call}
 use Rattle.records.specs.declared.Record.{Record}
 use Rattle.records.proofs.Record.{the-row as the-record}
-use Rattle.machine.specs.declared.Answer.{Answer}
-use Rattle.machine.proofs.Answer.{the-row as the-answer}
-use Rattle.machine.proofs.down.Symbol as down
-use Rattle.machine.proofs.release.Symbol as release
-use Rattle.machine.proofs.request.Symbol as request
-use Rattle.machine.proofs.up.Symbol as up
+use Rattle.calls.specs.declared.Answer.{Answer}
+use Rattle.calls.proofs.Answer.{the-row as the-answer}
+use Rattle.calls.proofs.down.Symbol as down
+use Rattle.calls.proofs.release.Symbol as release
+use Rattle.calls.proofs.request.Symbol as request
+use Rattle.calls.proofs.up.Symbol as up
 
 -- w is the machine's value of the record: its numbers fit their widths, and its arrays have their lengths
 abbrev pub IsRecord : Record → Val → Type 0

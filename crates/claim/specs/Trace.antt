@@ -2,11 +2,11 @@
 use mathlib.Core.List.{List, [], _∷_}
 use Rattle.plain.specs.Run.{Call}
 use Rattle.records.specs.declared.Record.{Record}
-use Rattle.machine.specs.declared.Answer.{Answer}
-use Rattle.machine.proofs.down.Reads as down
-use Rattle.machine.proofs.release.Reads as release
-use Rattle.machine.proofs.request.Reads as request
-use Rattle.machine.proofs.up.Reads as up
+use Rattle.calls.specs.declared.Answer.{Answer}
+use Rattle.calls.proofs.down.Reads as down
+use Rattle.calls.proofs.release.Reads as release
+use Rattle.calls.proofs.request.Reads as request
+use Rattle.calls.proofs.up.Reads as up
 
 -- What the checker has learnt of a call of an exported function: its contract in the source, and nothing else. Arguments by value are the
 -- same at the call and at its end.

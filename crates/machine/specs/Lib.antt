@@ -1,5 +1,2 @@
-pub mod Answers
 pub mod Opening
 pub mod Performing
-pub mod Lent
-pub mod Inner

@@ -6,15 +6,15 @@ ghost use Prim.Native.Nat.{_+_, _*_, _≤_};
 ghost use lib.ListN.{length, getD, set, drop};
 ghost use Rattle.plain.specs.Run.{call, run as runOf, after};
 ghost use Rattle.records.specs.View.{view};
-ghost use Rattle.machine.specs.Answers.{answerOf};
+ghost use Rattle.calls.specs.Answers.{answerOf};
 ghost use Rattle.machine.specs.Performing.{formed, wellFormed, callOf, callsOf, wordsOf};
 use crate::ANSWER_NUMBERS;
-use crate::Answer;
 use crate::CALL_NUMBERS;
 use crate::DO_DOWN;
 use crate::DO_RELEASE;
 use crate::DO_REQUEST;
 use crate::DO_UP;
+use calls::Answer;
 use records::Record;
 
 pub fn is_formed(what: u16, with: u16, units: u16) -> bool
@@ -52,15 +52,15 @@ pub(crate) fn answer_to(r: Record, what: u16, station: u16, with: u16, units: u1
     let s = station as usize;
     let w = with as usize;
     if what == DO_REQUEST {
-        return crate::request(r, s, w, units as usize);
+        return calls::request(r, s, w, units as usize);
     }
     if what == DO_UP {
-        return crate::up(r, s, w);
+        return calls::up(r, s, w);
     }
     if what == DO_DOWN {
-        return crate::down(r, s, w);
+        return calls::down(r, s, w);
     }
-    crate::release(r, s)
+    calls::release(r, s)
 }
 
 // The answer to the call whose numbers begin at place i.

@@ -21,7 +21,7 @@ fn number(key: &[u8], value: usize) {
 }
 
 // One more call is counted, as far as the counts have room.
-fn counted(t: Tally, a: machine::Answer) -> Tally {
+fn counted(t: Tally, a: calls::Answer) -> Tally {
     let mut next = t;
     let record = a.record;
     next.record = record;
@@ -44,8 +44,8 @@ fn collect(t: Tally, s: usize) -> Tally {
     let mut next = t;
     let mut j: usize = 0;
     while j < records::STATIONS {
-        next = counted(next, machine::up(next.record, s, j));
-        next = counted(next, machine::down(next.record, s, j));
+        next = counted(next, calls::up(next.record, s, j));
+        next = counted(next, calls::down(next.record, s, j));
         j += 1;
     }
     next
@@ -56,16 +56,16 @@ fn clear(t: Tally, s: usize) -> Tally {
     let mut next = t;
     let mut j: usize = 0;
     while j < records::STATIONS {
-        next = counted(next, machine::up(next.record, s, j));
+        next = counted(next, calls::up(next.record, s, j));
         j += 1;
     }
     next
 }
 
 fn round(t: Tally, s: usize) -> Tally {
-    let asked = counted(t, machine::request(t.record, s, 0, 1));
+    let asked = counted(t, calls::request(t.record, s, 0, 1));
     let holding = collect(asked, s);
-    let given = counted(holding, machine::release(holding.record, s));
+    let given = counted(holding, calls::release(holding.record, s));
     clear(given, s)
 }
 

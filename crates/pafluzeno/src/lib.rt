@@ -2,7 +2,7 @@
 ghost use mathlib.Core.Path.{_≡_};
 ghost use Prim.Native.Nat.{_<_};
 ghost use lib.ListN.{length};
-ghost use Rattle.machine.specs.Lent.{lending, lentOf};
+ghost use Rattle.calls.specs.Lent.{lending, lentOf};
 ghost use Rattle.quorum.specs.Answer.{said as checkedSays, answer};
 ghost use Rattle.quorum.specs.Limits.{mostStations};
 ghost use Rattle.quorum.specs.Scratch.{cleaned};
@@ -15,6 +15,10 @@ ghost use Rattle.pafluzeno.specs.Arriving.{upwardOf};
 
 mod journal;
 
+use calls::Incoming;
+use calls::Reply;
+use calls::Settled;
+use calls::Upward;
 pub use journal::Part;
 pub use journal::pafluzeno_after_record;
 pub use journal::pafluzeno_page;
@@ -22,10 +26,6 @@ pub use journal::pafluzeno_read_line;
 pub use journal::pafluzeno_read_record;
 pub use journal::pafluzeno_tally;
 pub use journal::pafluzeno_write_record;
-use machine::Incoming;
-use machine::Reply;
-use machine::Settled;
-use machine::Upward;
 use quorum::Checked;
 use records::Arbiter;
 use tables::Made;
@@ -88,7 +88,7 @@ fn settled(a: Arbiter, m: Arrival) -> Settled
     let stock = m.stock;
     let station = m.station;
     if m.request {
-        return machine::settle(
+        return calls::settle(
             a,
             Incoming {
                 stock,
@@ -97,7 +97,7 @@ fn settled(a: Arbiter, m: Arrival) -> Settled
             },
         );
     }
-    machine::settle(
+    calls::settle(
         a,
         Incoming {
             stock,

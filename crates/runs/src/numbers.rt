@@ -2,7 +2,7 @@
 use crate::by_hand;
 use crate::report;
 use crate::script;
-use machine::Answer;
+use calls::Answer;
 use plain::Message;
 use plain::Phase;
 use records::Record;
@@ -72,10 +72,10 @@ fn large(call: &[u8], a: Answer) {
 
 // Numbers that a byte cannot hold.
 fn large_numbers(p2: Record) {
-    large(b"request(256,0,1)", machine::request(p2, 256, 0, 1));
-    large(b"request(0,256,1)", machine::request(p2, 0, 256, 1));
-    large(b"request(0,0,257)", machine::request(p2, 0, 0, 257));
-    large(b"up(0,18446744073709551615)", machine::up(p2, 0, LARGEST));
+    large(b"request(256,0,1)", calls::request(p2, 256, 0, 1));
+    large(b"request(0,256,1)", calls::request(p2, 0, 256, 1));
+    large(b"request(0,0,257)", calls::request(p2, 0, 0, 257));
+    large(b"up(0,18446744073709551615)", calls::up(p2, 0, LARGEST));
 }
 
 pub(crate) fn run(p2: Record) {

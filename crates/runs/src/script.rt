@@ -2,7 +2,7 @@
 ghost use Prim.Native.Nat.{_≤_};
 ghost use lib.ListN.{length};
 use crate::report;
-use machine::Answer;
+use calls::Answer;
 use records::Record;
 
 // Where the byte first stands in the text, or the text's end.
@@ -38,17 +38,17 @@ fn answer(r: Record, call: &[u8]) -> Answer {
     if call.len() == 14 {
         let s = number_at(call, 8);
         let q = number_at(call, 10);
-        return machine::request(r, s, q, number_at(call, 12));
+        return calls::request(r, s, q, number_at(call, 12));
     }
     if call.len() == 10 {
-        return machine::release(r, number_at(call, 8));
+        return calls::release(r, number_at(call, 8));
     }
     if call.len() == 9 {
         let s = number_at(call, 5);
-        return machine::down(r, s, number_at(call, 7));
+        return calls::down(r, s, number_at(call, 7));
     }
     let s = number_at(call, 3);
-    machine::up(r, s, number_at(call, 5))
+    calls::up(r, s, number_at(call, 5))
 }
 
 // The line's end, and the record that the machine handed back.

@@ -5,7 +5,7 @@ use native.Mathlib.Omega.{arith}
 use lib.ListN.{length}
 use borrow.Author.Needs.{needs}
 use Rattle.records.specs.View.{view}
-use Rattle.machine.specs.Answers.{answerOf}
+use Rattle.calls.specs.Answers.{answerOf}
 use Rattle.machine.proofs.GoingOn.{same-length as same-room, Going, going-none, whole, room, going-more, all-after, all-stored}
 use Rattle.machine.proofs.call_lists.run.Statement.{statement}
 use Rattle.machine.proofs.call_lists.run.Tie as tie

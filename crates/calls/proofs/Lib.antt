@@ -1,0 +1,13 @@
+pub mod ServingLine
+pub mod SendingGrants
+pub mod ArrivingMessage
+pub mod Refusing
+pub mod RecordInRange
+pub mod DeliveringUp
+pub mod AskingMember
+pub mod ReceivingDown
+pub mod GoingOnward
+pub mod ReleasingRow
+pub mod GivingBack
+pub mod LendingArbiter
+pub mod LendingExamples

@@ -1,0 +1,13 @@
+-- `calls::refuse` meets its contract. It hands the record back.
+-- Assumes nothing.
+use mathlib.Core.Path.{refl}
+use Rattle.calls.specs.Answers.{answerOf}
+use Rattle.calls.proofs.refuse.Statement.{statement}
+use Rattle.calls.proofs.refuse.Tie as tie
+
+returns : tie.Need-returns
+unfolding answerOf
+returns c = (refl, refl)
+
+pub refuse-spec : {M : Type 1} → statement M
+refuse-spec = tie.close (tie.spec returns)

@@ -1,0 +1,118 @@
+// Release, on a record in range.
+ghost use mathlib.Core.Bool.{false};
+ghost use mathlib.Core.Path.{_≡_};
+ghost use Prim.Native.Nat.{ℕ, _≤_, _<_, _^_};
+ghost use Rattle.lists.specs.At.{at};
+ghost use Rattle.lists.specs.Search.{someBelow};
+ghost use Rattle.plain.specs.Release.{releasing, releasePasses, release};
+ghost use Rattle.plain.specs.declared.Phase.the-variants.{Holding};
+ghost use Rattle.quorum.specs.Limits.{mostStations};
+ghost use Rattle.records.specs.View.{view, rowOf};
+ghost use Rattle.calls.specs.Answers.{answerOf};
+ghost use Rattle.calls.specs.Inner.Ready.{Ready};
+use crate::Answer;
+use crate::lanes;
+use plain::Message;
+use plain::Phase;
+use records::Record;
+use records::Row;
+use records::Station;
+use records::UP_PLACES;
+
+pub(crate) struct Released {
+    pub full: bool,
+    pub row: Row,
+}
+
+// RELEASE goes up to j, if j is a member of the set.
+fn release_to(w: Row, j: usize, set: u16) -> Released
+    requires { ⌜ j < mostStations ⌝ }
+    ensures full { λ r. ⌜ ((n : ℕ) → j < n → r .full ≡ releasePasses set (rowOf n w) j) ⌝ }
+    ensures row { λ r. ⌜ (r .full ≡ false → (n : ℕ) → j < n → rowOf n (r .row) ≡ at (rowOf n w) j (releasing set (rowOf n w) j)) ⌝ }
+{
+    if !stations::has(set, j) {
+        return Released {
+            full: false,
+            row: w,
+        };
+    }
+    let lane = w.lanes[j];
+    if UP_PLACES <= lane.len as usize {
+        return Released { full: true, row: w };
+    }
+    let row = lanes::row_with(w, j, lanes::put(lane, Message::Release));
+    Released { full: false, row }
+}
+
+// RELEASE goes up to all members of the set.
+fn release_row(w: Row, n: usize, set: u16) -> Released
+    requires { ⌜ (n ≤ mostStations) × (set < 2 ^ n) ⌝ }
+    ensures full { λ r. ⌜ r .full ≡ someBelow (releasePasses set (rowOf n w)) n ⌝ }
+    ensures row { λ r. ⌜ (r .full ≡ false → rowOf n (r .row) ≡ releasing set (rowOf n w)) ⌝ }
+{
+    let mut next = w;
+    let mut j: usize = 0;
+    while j < n {
+        let released = release_to(next, j, set);
+        if released.full {
+            return Released {
+                full: true,
+                row: next,
+            };
+        }
+        next = released.row;
+        j += 1;
+    }
+    Released {
+        full: false,
+        row: next,
+    }
+}
+
+// The station is idle, and its units are left.
+fn give_back(r: Record, s: usize, quorum: u8, units: u8) -> Answer
+    requires { ⌜ Ready r × (s < r .n) × (view r .phase s ≡ Holding quorum units) × (quorum < r .quorums) ⌝ }
+    ensures answer { λ a. ⌜ answerOf a ≡ release (view r) s ⌝ }
+    ensures refused { λ a. ⌜ (0 < a .refusal → a .«record» ≡ r) ⌝ }
+{
+    let mut up = r.up;
+    let at = quorum as usize;
+    let row = up.rows[s];
+    let released = release_row(row, r.n as usize, r.table[at]);
+    if released.full {
+        return crate::refuse(r, refusals::NO_PLACE);
+    }
+    let longer = released.row;
+    up.rows[s] = longer;
+    let mut next = r;
+    next.up = up;
+    let station = Station { phase: Phase::Idle };
+    next.stations[s] = station;
+    Answer {
+        refusal: refusals::NO_REFUSAL,
+        entered: 0,
+        left: units,
+        record: next,
+    }
+}
+
+pub(crate) fn release_in_range(r: Record, s: usize) -> Answer
+    requires { ⌜ Ready r ⌝ }
+    ensures answer { λ a. ⌜ answerOf a ≡ release (view r) s ⌝ }
+    ensures refused { λ a. ⌜ (0 < a .refusal → a .«record» ≡ r) ⌝ }
+{
+    if r.n as usize <= s {
+        return crate::refuse(r, refusals::NO_SUCH_STATION);
+    }
+    let station = r.stations[s];
+    let p = station.phase;
+    match p {
+        Phase::Idle => crate::refuse(r, refusals::NOT_HOLDING),
+        Phase::Collecting {
+            quorum: _,
+            units: _,
+            member: _,
+        } => crate::refuse(r, refusals::NOT_HOLDING),
+        Phase::Holding { quorum, units } => give_back(r, s, quorum, units),
+    }
+}
