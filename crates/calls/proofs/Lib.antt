@@ -1,6 +1,4 @@
-pub mod ServingLine
 pub mod SendingGrants
-pub mod ArrivingMessage
 pub mod Refusing
 pub mod RecordInRange
 pub mod DeliveringUp
@@ -9,5 +7,3 @@ pub mod ReceivingDown
 pub mod GoingOnward
 pub mod ReleasingRow
 pub mod GivingBack
-pub mod LendingArbiter
-pub mod LendingExamples

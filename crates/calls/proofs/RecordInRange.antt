@@ -1,7 +1,6 @@
 -- A record in range: its limits, and what of the plain state in range is known of its parts.
 -- Assumes nothing.
 use mathlib.Core.Bool.{true}
-use mathlib.Core.List.{List, _∷_}
 use mathlib.Core.Path.{_≡_}
 use Prim.Native.Nat.{ℕ, _≤_, _<_}
 use native.Mathlib.Omega.{arith}
@@ -13,9 +12,8 @@ use Rattle.lists.proofs.Tests.{and-left}
 use Rattle.quorum.proofs.Promises.{Limits, limits-kept}
 use Rattle.plain.specs.InRange.{goesUp, goesDown, phaseIn, arbiterIn, inRange}
 use Rattle.plain.specs.Lanes.{upPlaces, downPlaces}
-use Rattle.plain.specs.declared.Message.{Message}
 use Rattle.plain.specs.declared.Phase.the-variants.{Collecting, Holding}
-use Rattle.plain.proofs.LanesInRange.{keeps-short, keeps-first}
+use Rattle.plain.proofs.LanesInRange.{keeps-short}
 use Rattle.plain.proofs.Range.{ranged}
 use Rattle.records.specs.View.{noStation, noArbiter, arbiterOf, lanesOf, tableOf, view}
 use Rattle.records.specs.declared.Record.{Record}
@@ -66,7 +64,7 @@ module _ (r : Record) where
   pub holds : inRange (view r) ≡ true → (s : ℕ) → s < r .n → {q h : ℕ} → getD (r .stations) s noStation .phase ≡ Holding q h → q < r .quorums
   holds e s l {q} {h} p = omega (arith, holds-in q h (rw p at (phase-in e s l)), length-cut 0 (r .quorums) (r .table))
 
-  -- lanes keep their limits, and what is taken from a lane up goes up
+  -- lanes keep their limits
   pub up-short : inRange (view r) ≡ true → (s j : ℕ) → s < r .n → j < r .n → length (lanesOf (r .n) (r .up) s j) ≤ upPlaces
   unfolding view
   up-short e s j p q = keeps-short upPlaces (goesUp (r .stock)) (lanesOf (r .n) (r .up) s j) (ranged (view r) e .ups s p j q)
@@ -74,7 +72,3 @@ module _ (r : Record) where
   pub down-short : inRange (view r) ≡ true → (s j : ℕ) → s < r .n → j < r .n → length (lanesOf (r .n) (r .down) s j) ≤ downPlaces
   unfolding view
   down-short e s j p q = keeps-short downPlaces goesDown (lanesOf (r .n) (r .down) s j) (ranged (view r) e .downs s p j q)
-
-  pub up-goes : inRange (view r) ≡ true → (s j : ℕ) → s < r .n → j < r .n → (m : Message) (rest : List Message) → lanesOf (r .n) (r .up) s j ≡ m ∷ rest → goesUp (r .stock) m ≡ true
-  unfolding view
-  up-goes e s j p q m rest o = keeps-first upPlaces (goesUp (r .stock)) m rest (rw o at (ranged (view r) e .ups s p j q))

@@ -1,3 +1,2 @@
 pub mod Answers
-pub mod Lent
 pub mod Inner

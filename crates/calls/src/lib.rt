@@ -1,4 +1,4 @@
-// The four calls of a station on a record by value, and what one message makes of a station's own arbiter record.
+// The four calls of the machine, on a record by value.
 ghost use mathlib.Core.Path.{_≡_};
 ghost use Prim.Native.Nat.{_<_};
 ghost use Rattle.plain.specs.Answer.{refused as refusedBy};
@@ -8,20 +8,14 @@ ghost use Rattle.plain.specs.Request.{request as requestOf};
 ghost use Rattle.plain.specs.Up.{up as upOf};
 ghost use Rattle.records.specs.View.{view};
 ghost use Rattle.calls.specs.Answers.{answerOf};
-use records::Arbiter;
 use records::Record;
 
-mod delivery;
 mod downs;
 mod lanes;
-mod lending;
 mod releases;
 mod requests;
 mod sending;
-mod service;
 mod ups;
-
-pub use lending::settle;
 
 // What a call answers. A refused call enters and leaves 0 units and hands back the record that it was given.
 pub struct Answer {
@@ -29,32 +23,6 @@ pub struct Answer {
     pub entered: u8,
     pub left: u8,
     pub record: Record,
-}
-
-// What a station sends up to an arbiter.
-pub enum Upward {
-    Request(usize),
-    Release,
-}
-
-// A message that reaches a station's own arbiter: the stock, the station that sent it, and the message.
-pub struct Incoming {
-    pub stock: usize,
-    pub station: usize,
-    pub message: Upward,
-}
-
-// What is answered to it: the refusal, and the set of stations granted.
-#[repr(C)]
-pub struct Reply {
-    pub refusal: u8,
-    pub granted: u16,
-}
-
-// The reply, and the arbiter's record after it.
-pub struct Settled {
-    pub reply: Reply,
-    pub arbiter: Arbiter,
 }
 
 fn refuse(r: Record, refusal: u8) -> Answer

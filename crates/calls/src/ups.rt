@@ -6,7 +6,6 @@ ghost use Rattle.records.specs.View.{view, lanesOf};
 ghost use Rattle.calls.specs.Answers.{answerOf};
 ghost use Rattle.calls.specs.Inner.Ready.{Ready, Takes};
 use crate::Answer;
-use crate::delivery;
 use crate::lanes;
 use crate::sending;
 use plain::Message;
@@ -23,8 +22,8 @@ fn deliver_up(r: Record, s: usize, j: usize, m: Message, rest: Lanes) -> Answer
     let mut next = r;
     next.up = rest;
     let before = r.arbiters[j];
-    let delivery = delivery::deliver(before, n, r.stock as usize, s, m);
-    if delivery.full {
+    let delivery = arbiters::deliver(before, n, r.stock as usize, s, m);
+    if delivery.refusal != refusals::NO_REFUSAL {
         return crate::refuse(r, refusals::NO_PLACE); // in the line
     }
     let down = r.down;

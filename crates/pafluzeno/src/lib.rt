@@ -2,7 +2,7 @@
 ghost use mathlib.Core.Path.{_≡_};
 ghost use Prim.Native.Nat.{_<_};
 ghost use lib.ListN.{length};
-ghost use Rattle.calls.specs.Lent.{lending, lentOf};
+ghost use Rattle.arbiters.specs.Lent.{lending, lentOf};
 ghost use Rattle.quorum.specs.Answer.{said as checkedSays, answer};
 ghost use Rattle.quorum.specs.Limits.{mostStations};
 ghost use Rattle.quorum.specs.Scratch.{cleaned};
@@ -15,10 +15,10 @@ ghost use Rattle.pafluzeno.specs.Arriving.{upwardOf};
 
 mod journal;
 
-use calls::Incoming;
-use calls::Reply;
-use calls::Settled;
-use calls::Upward;
+use arbiters::Incoming;
+use arbiters::Reply;
+use arbiters::Settled;
+use arbiters::Upward;
 pub use journal::Part;
 pub use journal::pafluzeno_after_record;
 pub use journal::pafluzeno_page;
@@ -88,7 +88,7 @@ fn settled(a: Arbiter, m: Arrival) -> Settled
     let stock = m.stock;
     let station = m.station;
     if m.request {
-        return calls::settle(
+        return arbiters::settle(
             a,
             Incoming {
                 stock,
@@ -97,7 +97,7 @@ fn settled(a: Arbiter, m: Arrival) -> Settled
             },
         );
     }
-    calls::settle(
+    arbiters::settle(
         a,
         Incoming {
             stock,

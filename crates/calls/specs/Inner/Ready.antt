@@ -3,37 +3,20 @@ use mathlib.Core.Bool.{true}
 use mathlib.Core.List.{List, _∷_}
 use mathlib.Core.Path.{_≡_}
 use Prim.Native.Nat.{ℕ, _≤_, _<_, _^_}
-use lib.ListN.{length, getD}
+use lib.ListN.{length}
 use Rattle.lists.specs.At.{at2}
-use Rattle.lists.specs.Cut.{cut}
 use Rattle.quorum.specs.Family.{quorum}
 use Rattle.quorum.specs.Limits.{mostStations, mostUnits, mostQuorums}
-use Rattle.plain.specs.InRange.{goesUp, arbiterIn, inRange}
+use Rattle.plain.specs.InRange.{inRange}
 use Rattle.plain.specs.Lanes.{downPlaces, linePlaces}
 use Rattle.plain.specs.Request.{isIdle}
 use Rattle.plain.specs.declared.Entry.{Entry}
 use Rattle.plain.specs.declared.Message.{Message}
 use Rattle.plain.specs.declared.Phase.{Phase}
 use Rattle.plain.specs.declared.Phase.the-variants.{Collecting}
-use Rattle.records.specs.View.{noEntry, arbiterOf, view}
-use Rattle.records.specs.declared.Arbiter.{Arbiter}
+use Rattle.records.specs.View.{view}
 use Rattle.records.specs.declared.Record.{Record}
-
--- the first entries of a line are of stations below n
-abbrev pub Named : ℕ → ℕ → List Entry → Type 0
-Named n len line = (i : ℕ) → i < len → getD line i noEntry .station < n
-
--- an arbiter whose line can be served
-pub record Serves (n : ℕ) (a : Arbiter) : Type 0 where
-  pub few : n ≤ mostStations
-  pub short : a .len ≤ linePlaces
-  pub named : Named n (a .len) (a .line)
-
--- the entries granted are the first so many of a line
-pub record Granted (n : ℕ) (granted : List Entry) (grants : ℕ) (line : List Entry) : Type 0 where
-  pub are : cut noEntry grants line ≡ granted
-  pub short : grants ≤ linePlaces
-  pub named : Named n grants line
+use Rattle.arbiters.specs.Inner.Ready.{Named}
 
 -- the first entries of a line can be told to their stations, by lanes that are in range
 pub record Sends (n j grants : ℕ) (line : List Entry) (lanes : ℕ → ℕ → List Message) : Type 0 where
@@ -76,9 +59,3 @@ pub record Receives (r : Record) (s j : ℕ) (rest : ℕ → ℕ → List Messag
 -- a station that collects works with a quorum of the table, which names no station from n on
 abbrev pub Wishes : ℕ → List ℕ → Phase → Type 0
 Wishes n table p = (q h m : ℕ) → p ≡ Collecting q h m → (q < length table) × (quorum table q < 2 ^ n)
-
--- a lent arbiter's call has passed 2, 19, 8 and 10
-pub record Lends (a : Arbiter) (k s : ℕ) (m : Message) : Type 0 where
-  pub range : arbiterIn mostStations k (arbiterOf mostStations a) ≡ true
-  pub station : s < mostStations
-  pub goes : goesUp k m ≡ true

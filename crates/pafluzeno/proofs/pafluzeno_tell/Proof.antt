@@ -39,9 +39,9 @@ use types.SemTy.{Body}
 use Rattle.quorum.specs.Limits.{mostStations}
 use Rattle.records.specs.View.{arbiterOf}
 use Rattle.records.specs.declared.Arbiter.{Arbiter}
-use Rattle.calls.specs.Lent.{lending, lentOf}
-use Rattle.calls.specs.declared.Reply.{Reply}
-use Rattle.calls.specs.declared.Settled.{Settled}
+use Rattle.arbiters.specs.Lent.{lending, lentOf}
+use Rattle.arbiters.specs.declared.Reply.{Reply}
+use Rattle.arbiters.specs.declared.Settled.{Settled}
 use Rattle.pafluzeno.specs.Arriving.{upwardOf}
 use Rattle.pafluzeno.specs.declared.Arrival.{Arrival}
 use Rattle.pafluzeno.proofs.settled.Symbol.{name as #settled}
@@ -51,10 +51,10 @@ use Rattle.records.proofs.Arbiter as T
 use Rattle.records.proofs.Arbiter.Laws as T′
 use Rattle.pafluzeno.proofs.Arrival as I
 use Rattle.pafluzeno.proofs.Arrival.Laws as I′
-use Rattle.calls.proofs.Reply as R
-use Rattle.calls.proofs.Reply.Laws as R′
-use Rattle.calls.proofs.Settled as S
-use Rattle.calls.proofs.Settled.Laws as S′
+use Rattle.arbiters.proofs.Reply as R
+use Rattle.arbiters.proofs.Reply.Laws as R′
+use Rattle.arbiters.proofs.Settled as S
+use Rattle.arbiters.proofs.Settled.Laws as S′
 use Rattle.pafluzeno.proofs.settled as settled
 use Rattle.pafluzeno.proofs.settled.Symbol as settled-def
 use Rattle.pafluzeno.proofs.settled.Met as settled-thm

@@ -3,7 +3,7 @@
 use mathlib.Core.Bool.{Bool}
 use mathlib.Core.Path.{ap, sym, _∙_}
 use borrow.Author.Needs.{needs}
-use Rattle.calls.specs.Lent.{lending}
+use Rattle.arbiters.specs.Lent.{lending}
 use Rattle.quorum.specs.Limits.{mostStations}
 use Rattle.records.specs.View.{arbiterOf}
 use Rattle.pafluzeno.specs.Arriving.{upwardOf}

@@ -1,0 +1,56 @@
+-- A message that reaches an arbiter, as the code stores it.
+-- Assumes nothing.
+use mathlib.Core.Bool.{true, false}
+use mathlib.Core.List.{_∷_, []}
+use mathlib.Core.Path.{_≡_, ap, _∙_}
+use Prim.Native.Nat.{ℕ, _+_, _≤_, _<_}
+use native.Mathlib.Omega.{arith}
+use lib.ListN.{length, set, length-append}
+use borrow.Author.Tests.{lt-ltb, le-ltb}
+use Rattle.lists.proofs.Cuts.{length-cut, cut-push}
+use Rattle.plain.specs.Arbiter.{arrived}
+use Rattle.plain.specs.Lanes.{linePlaces, passes}
+use Rattle.plain.specs.declared.Message.the-variants.{Request, Release, Grant}
+use Rattle.records.specs.View.{noEntry, arbiterOf}
+use Rattle.records.specs.declared.Arbiter.{Arbiter}
+use Rattle.records.proofs.Viewing.{granted-with}
+
+pub line-length : (n : ℕ) (a : Arbiter) → length (arbiterOf n a .line) ≡ a .len
+unfolding arbiterOf
+line-length n a = length-cut noEntry (a .len) (a .line)
+
+-- ---- whether the line would pass its limit
+
+module _ (n s h : ℕ) (a : Arbiter) where
+  request-length : length (arrived (Request h) s (arbiterOf n a) .line) ≡ a .len + 1
+  unfolding arrived
+  request-length = length-append (arbiterOf n a .line) (record { station = s; units = h } ∷ []) ∙ ap (λ (l : ℕ). l + 1) (line-length n a)
+
+  pub request-passes : linePlaces ≤ a .len → passes linePlaces (arrived (Request h) s (arbiterOf n a) .line) ≡ true
+  request-passes l = rw request-length (lt-ltb linePlaces (a .len + 1) (omega arith))
+
+  pub request-room : a .len < linePlaces → passes linePlaces (arrived (Request h) s (arbiterOf n a) .line) ≡ false
+  request-room l = rw request-length (le-ltb linePlaces (a .len + 1) (omega arith))
+
+-- RELEASE takes no place
+pub release-room : (n s : ℕ) (a : Arbiter) → a .len ≤ linePlaces → passes linePlaces (arrived Release s (arbiterOf n a) .line) ≡ false
+unfolding arrived
+release-room n s a h = rw (line-length n a) (le-ltb linePlaces (a .len) h)
+
+pub grant-room : (n s : ℕ) (a : Arbiter) → a .len ≤ linePlaces → passes linePlaces (arrived Grant s (arbiterOf n a) .line) ≡ false
+unfolding arrived
+grant-room n s a h = rw (line-length n a) (le-ltb linePlaces (a .len) h)
+
+-- ---- what is stored
+
+pub request-joins : (n s h : ℕ) (a : Arbiter) → length (a .line) ≡ 12 → a .len < 12
+    → arbiterOf n (record { granted = a .granted; len = a .len + 1; line = set (a .line) (a .len) (record { station = s; units = h }) }) ≡ arrived (Request h) s (arbiterOf n a)
+unfolding arbiterOf arrived
+request-joins n s h a e l =
+    let l′ : a .len < length (a .line) = omega arith in
+    rw (cut-push noEntry (a .len) (a .line) (record { station = s; units = h }) l′)
+
+pub release-clears : (n s : ℕ) (a : Arbiter) → s < n → s < length (a .granted)
+    → arbiterOf n (record { granted = set (a .granted) s 0; len = a .len; line = a .line }) ≡ arrived Release s (arbiterOf n a)
+unfolding arbiterOf arrived
+release-clears n s a p q = rw (granted-with n (a .granted) s 0 p q)

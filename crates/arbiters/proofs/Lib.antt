@@ -1,0 +1,5 @@
+pub mod ServingLine
+pub mod ArrivingMessage
+pub mod TellingArbiter
+pub mod LendingArbiter
+pub mod LendingExamples

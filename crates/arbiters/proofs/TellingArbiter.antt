@@ -1,0 +1,172 @@
+-- An arbiter that is told a message: whether its line can be served, the refusals in their order, and what a caller learns of the answer.
+-- Assumes nothing.
+use mathlib.Core.Bool.{true, false, and-false}
+use mathlib.Core.List.{List, [], _∷_}
+use mathlib.Core.Logic.{⊎-elim}
+use mathlib.Core.Path.{_≡_, refl, sym, ap, _∙_}
+use Prim.Native.Nat.{ℕ, _≤_, _<_}
+use native.Mathlib.Omega.{arith}
+use lib.Dec.{leb, ltb}
+use lib.ListN.{length, getD, length-append, List·getD-append}
+use borrow.Author.Tests.{le-leb, lt-leb, leb-true, lt-ltb, ltb-true}
+use Rattle.lists.specs.Cut.{cut}
+use Rattle.lists.specs.Search.{all, everyBelow}
+use Rattle.lists.proofs.Cuts.{length-cut, getD-cut, all-cut}
+use Rattle.lists.proofs.Searches.{all-at}
+use Rattle.lists.proofs.Tests.{known, and-left, and-right, and-both}
+use Rattle.quorum.specs.Limits.{mostStations, upTo}
+use Rattle.plain.specs.Arbiter.{arrived, served}
+use Rattle.plain.specs.InRange.{entryIn, arbiterIn}
+use Rattle.plain.specs.Lanes.{linePlaces, keeps, passes}
+use Rattle.plain.specs.State.{Arbiter as PlainArbiter}
+use Rattle.plain.specs.declared.Entry.{Entry}
+use Rattle.plain.specs.declared.Message.{Message}
+use Rattle.plain.specs.declared.Message.the-variants.{Request, Release, Grant}
+use Rattle.plain.proofs.ArbitersInRange.{arbiter-facts}
+use Rattle.plain.proofs.LanesInRange.{keeps-more, keeps-all, keeps-short}
+use Rattle.plain.proofs.Serving.{serve-splits}
+use Rattle.records.specs.View.{noEntry, arbiterOf}
+use Rattle.records.specs.declared.Arbiter.{Arbiter}
+use Rattle.arbiters.specs.Inner.Ready.{Named, Serves}
+use Rattle.arbiters.specs.Telling.{isOf, servable, Telling, untold, telling, toldOf}
+use Rattle.arbiters.specs.declared.delivery.Delivery.{Delivery}
+
+-- ---- lines that can be served, as the code tests them
+
+module _ (n : ℕ) (a : Arbiter) where
+  pub too-many : mostStations < n → servable n (arbiterOf n a) ≡ false
+  unfolding servable
+  too-many h = rw (lt-leb n mostStations h)
+
+  pub too-long : linePlaces < a .len → servable n (arbiterOf n a) ≡ false
+  unfolding servable keeps arbiterOf
+  too-long h = rw (length-cut noEntry (a .len) (a .line), lt-leb (a .len) linePlaces h) (and-false (leb n mostStations))
+
+  pub by-entries : n ≤ mostStations → a .len ≤ linePlaces → servable n (arbiterOf n a) ≡ everyBelow (λ i. isOf n (getD (a .line) i noEntry)) (a .len)
+  unfolding servable keeps arbiterOf
+  by-entries h l =
+      rw (le-leb n mostStations h, length-cut noEntry (a .len) (a .line), le-leb (a .len) linePlaces l)
+      (all-cut noEntry (isOf n) (a .len) (a .line))
+
+module _ (n : ℕ) where
+  servable-line : (a : PlainArbiter) → servable n a ≡ true → keeps linePlaces (isOf n) (a .line) ≡ true
+  unfolding servable
+  servable-line a e = and-right (leb n mostStations) (keeps linePlaces (isOf n) (a .line)) e
+
+  servable-few : (a : PlainArbiter) → servable n a ≡ true → n ≤ mostStations
+  unfolding servable
+  servable-few a e = leb-true n mostStations (and-left (leb n mostStations) (keeps linePlaces (isOf n) (a .line)) e)
+
+  -- entry i of a line that can be served
+  entry-of : (a : PlainArbiter) → servable n a ≡ true → (i : ℕ) → i < length (a .line) → getD (a .line) i noEntry .station < n
+  entry-of a e i h =
+      ltb-true (getD (a .line) i noEntry .station) n
+      (all-at (isOf n) noEntry (a .line) (keeps-all linePlaces (isOf n) (a .line) (servable-line a e)) i h)
+
+  pub servable-serves : (b : Arbiter) → servable n (arbiterOf n b) ≡ true → Serves n b
+  unfolding arbiterOf
+  servable-serves b e =
+      let long = length-cut noEntry (b .len) (b .line) in
+      record {
+        few = servable-few (arbiterOf n b) e;
+        short = omega (arith, long, keeps-short linePlaces (isOf n) (cut noEntry (b .len) (b .line)) (servable-line (arbiterOf n b) e));
+        named = λ i h. rw (getD-cut noEntry (b .len) (b .line) i h) at (entry-of (arbiterOf n b) e i (omega (arith, long)));
+      }
+
+  -- it can be served when a message has arrived
+  pub arrived-servable : (m : Message) (s : ℕ) (a : PlainArbiter) → s < n → servable n a ≡ true → passes linePlaces (arrived m s a .line) ≡ false → servable n (arrived m s a) ≡ true
+  unfolding arrived servable
+  arrived-servable (Request h) s a l e room =
+      and-both (le-leb n mostStations (servable-few a e))
+      (keeps-more linePlaces (isOf n) (a .line) (record { station = s; units = h } ∷ []) (servable-line a e) (and-both (lt-ltb s n l) refl) room)
+  arrived-servable Release s a l e room = e
+  arrived-servable Grant s a l e room = e
+
+  -- and that of an arbiter in range can be served
+  all-of : (k : ℕ) (line : List Entry) → all (entryIn n k) line ≡ true → all (isOf n) line ≡ true
+  unfolding entryIn
+  all-of k [] e = refl
+  all-of k (x ∷ line) e =
+      and-both (and-left (ltb (x .station) n) (upTo k (x .units)) (and-left (entryIn n k x) (all (entryIn n k) line) e))
+      (all-of k line (and-right (entryIn n k x) (all (entryIn n k) line) e))
+
+  pub in-range-servable : (k : ℕ) (a : PlainArbiter) → n ≤ mostStations → arbiterIn n k a ≡ true → servable n a ≡ true
+  unfolding servable keeps
+  in-range-servable k a few e =
+      let line = arbiter-facts n k a e .line in
+      and-both (le-leb n mostStations few)
+      (and-both (le-leb (length (a .line)) linePlaces (keeps-short linePlaces (entryIn n k) (a .line) line)) (all-of k (a .line) (keeps-all linePlaces (entryIn n k) (a .line) line)))
+
+-- ---- refusals
+
+module _ (n k s : ℕ) (m : Message) (a : PlainArbiter) where
+  pub telling-19 : servable n a ≡ false → telling n k s m a ≡ untold a 19
+  unfolding telling
+  telling-19 e = rw e
+
+  module _ (fit : servable n a ≡ true) where
+    pub telling-8 : n ≤ s → telling n k s m a ≡ untold a 8
+    unfolding telling
+    telling-8 h = rw (fit, le-leb n s h)
+
+    module _ (station : s < n) where
+      pub telling-14 : passes linePlaces (arrived m s a .line) ≡ true → telling n k s m a ≡ untold a 14
+      unfolding telling
+      telling-14 f = rw (fit, lt-leb n s station, f)
+
+      pub telling-done : passes linePlaces (arrived m s a .line) ≡ false
+          → telling n k s m a ≡ record { refusal = 0; arbiter = served n k (arrived m s a) .arbiter; grants = served n k (arrived m s a) .grants }
+      unfolding telling
+      telling-done f = rw (fit, lt-leb n s station, f)
+
+-- ---- what a caller learns, whose arbiter can be served and whose station exists
+
+-- the message has joined, and nothing was refused: the entries granted are the first so many of the line, all within the arrays
+pub record Told (n k : ℕ) (joined : PlainArbiter) (d : Delivery) : Type 0 where
+  pub room : passes linePlaces (joined .line) ≡ false
+  pub arbiter : arbiterOf n (d .arbiter) ≡ served n k joined .arbiter
+  pub grants : cut noEntry (d .grants) (d .line) ≡ served n k joined .grants
+  pub short : d .grants ≤ linePlaces
+  pub named : Named n (d .grants) (d .line)
+
+module _ (n k s : ℕ) (m : Message) (a : PlainArbiter) (fit : servable n a ≡ true) (station : s < n) (d : Delivery) (told : toldOf n d ≡ telling n k s m a) where
+  abbrev joined : PlainArbiter
+  joined = arrived m s a
+
+  refusal-is : d .refusal ≡ telling n k s m a .refusal
+  unfolding toldOf
+  refusal-is = ap (λ (t : Telling). t .refusal) told
+
+  pub told-full : (d .refusal ≡ 0 → ⊥) → passes linePlaces (joined .line) ≡ true
+  told-full some =
+      ⊎-elim (λ (t : passes linePlaces (joined .line) ≡ true). t)
+      (λ (f : passes linePlaces (joined .line) ≡ false). absurd (some (refusal-is ∙ ap (λ (t : Telling). t .refusal) (telling-done n k s m a fit station f))))
+      (known (passes linePlaces (joined .line)))
+
+  told-room : d .refusal ≡ 0 → passes linePlaces (joined .line) ≡ false
+  told-room none =
+      ⊎-elim (λ (t : passes linePlaces (joined .line) ≡ true). absurd (omega (arith, refusal-is ∙ ap (λ (x : Telling). x .refusal) (telling-14 n k s m a fit station t))))
+      (λ (f : passes linePlaces (joined .line) ≡ false). f)
+      (known (passes linePlaces (joined .line)))
+
+  pub told-done : d .refusal ≡ 0 → Told n k joined d
+  unfolding toldOf
+  told-done none =
+      let room = told-room none in
+      let done = told ∙ telling-done n k s m a fit station room in
+      let grants : cut noEntry (d .grants) (d .line) ≡ served n k joined .grants = ap (λ (t : Telling). t .grants) done in
+      let fits = arrived-servable n m s a station fit room in
+      let splits = serve-splits n k (joined .granted) (joined .line) in
+      let long = sym (length-append (served n k joined .grants) (served n k joined .arbiter .line)) ∙ ap length splits in
+      let many = sym (length-cut noEntry (d .grants) (d .line)) ∙ ap length grants in
+      let limit = keeps-short linePlaces (isOf n) (joined .line) (servable-line n joined fits) in
+      record {
+        room = room;
+        arbiter = ap (λ (t : Telling). t .arbiter) done;
+        grants = grants;
+        short = omega (arith, long, many, limit);
+        named = λ i h.
+            let first = List·getD-append (served n k joined .grants) (served n k joined .arbiter .line) noEntry i (omega (arith, many)) in
+            let same = sym (getD-cut noEntry (d .grants) (d .line) i h) ∙ ap (λ (l : List Entry). getD l i noEntry) grants ∙ sym first ∙ ap (λ (l : List Entry). getD l i noEntry) splits in
+            rw same (entry-of n joined fits i (omega (arith, long, many)));
+      }

@@ -1,0 +1,87 @@
+-- `arbiters::delivery::arrive` meets its contract. One case for each message.
+-- Assumes nothing.
+use mathlib.Core.Bool.{true≢false}
+use mathlib.Core.Path.{sym}
+use native.Mathlib.Omega.{arith}
+use borrow.Author.Needs.{needs}
+use Rattle.plain.specs.Arbiter.{arrived}
+use Rattle.records.proofs.Good.{line-of, granted-of}
+use Rattle.arbiters.proofs.ArrivingMessage.{request-passes, request-room, release-room, grant-room, request-joins, release-clears}
+use Rattle.arbiters.proofs.delivery.arrive.Statement.{statement}
+use Rattle.arbiters.proofs.delivery.arrive.Tie as tie
+
+enum-known-m : tie.Need-enum-known-m
+enum-known-m c = search needs
+
+cast-at : tie.Need-cast-at
+cast-at c = search needs
+
+returns : tie.Need-returns
+returns c =
+    let st = c .before .before .before .before in
+    let m = c .before .before .m .given in
+    (λ n. rw (m .1) (sym (request-passes n (st .args .s) (m .0 .0) (st .args .a) (c .if1 .taken))), λ z n p. absurd (true≢false z))
+
+cast-next : tie.Need-cast-next
+cast-next c = search needs
+
+mul-e : tie.Need-mul-e
+mul-e c = search needs
+
+element-set-from-e : tie.Need-element-set-from-e
+element-set-from-e c = search needs
+
+add-next : tie.Need-add-next
+add-next c = search needs
+
+enum-told : tie.Need-enum-told
+enum-told c = search needs
+
+element-write-next : tie.Need-element-write-next
+element-write-next c = search needs
+
+enum-told-2 : tie.Need-enum-told-2
+enum-told-2 c = search needs
+
+returns-2 : tie.Need-returns-2
+returns-2 c =
+    let st = c .before .before .before .before in
+    let m = c .before .before .m .given in
+    let a = st .args .a in (
+      λ n. rw (m .1) (sym (request-room n (st .args .s) (m .0 .0) a (c .if1 .left))),
+      λ z n p. rw (m .1) (request-joins n (st .args .s) (m .0 .0) a (line-of a _ (st .good .0)) (c .if1 .left)),
+    )
+
+returns-3 : tie.Need-returns-3
+returns-3 c =
+    let st = c .before .before in
+    let a = st .args .a in
+    let long = granted-of a _ (st .good .0) in (
+      λ n. rw (c .enum-told .given .1) (sym (release-room n (st .args .s) a (st .pre .1))),
+      λ z n p. rw (c .enum-told .given .1) (release-clears n (st .args .s) a p (omega arith)),
+    )
+
+returns-4 : tie.Need-returns-4
+unfolding arrived
+returns-4 c =
+    let st = c .before .before in
+    let a = st .args .a in
+    (λ n. rw (c .enum-told2 .given .1) (sym (grant-room n (st .args .s) a (st .pre .1))), λ z n p. rw (c .enum-told2 .given .1))
+
+pub arrive-spec : {M : Type 1} → statement M
+arrive-spec =
+    tie.close
+    (tie.spec
+    enum-known-m
+    cast-at
+    returns
+    cast-next
+    mul-e
+    element-set-from-e
+    add-next
+    enum-told
+    element-write-next
+    enum-told-2
+    returns-2
+    returns-3
+    returns-4)

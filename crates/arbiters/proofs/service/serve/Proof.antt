@@ -1,0 +1,130 @@
+-- `arbiters::service::serve` meets its contract. What was granted before entry i, and what service makes of the rest; the loop ends where an entry does not fit, or at the end of the line.
+-- Assumes nothing.
+use mathlib.Core.List.{List}
+use mathlib.Core.Logic.{⊎-elim}
+use mathlib.Core.Path.{_≡_, refl, sym, ap, _∙_}
+use Prim.Native.Nat.{_≤_, _+_, _-_}
+use native.Mathlib.Omega.{arith}
+use lib.ListN.{length, drop}
+use borrow.Author.Needs.{needs}
+use Rattle.lists.specs.Cut.{cut}
+use Rattle.plain.specs.Arbiter.{Served, serve}
+use Rattle.plain.specs.declared.Entry.{Entry}
+use Rattle.records.specs.View.{noEntry, grantedOf, arbiterOf}
+use Rattle.arbiters.proofs.ServingLine.{from-entry, ends-at, serve-more, serve-stop, serve-end}
+use Rattle.arbiters.proofs.service.serve.Statement.{statement}
+use Rattle.arbiters.proofs.service.serve.Tie as tie
+
+abbrev Inv-loop : tie.InvT-loop
+Inv-loop n k len line granted₀ i₀ granted i =
+    (i ≤ len)
+    × (length granted ≡ 12)
+    × (serve n k (grantedOf n granted₀) (cut noEntry len line) ≡ from-entry n k len line i granted)
+
+abbrev μ-loop : tie.MeasureT-loop
+μ-loop n k len line granted₀ i₀ granted i = len - i
+
+cast-len : tie.Need-cast-len Inv-loop μ-loop
+cast-len c = search needs
+
+loop-holds : tie.Need-loop-holds Inv-loop μ-loop
+loop-holds c = (search needs, search needs, refl)
+
+mul-e : tie.Need-mul-e Inv-loop μ-loop
+mul-e c = search needs
+
+array-copy-out-e : tie.Need-array-copy-out-e Inv-loop μ-loop
+array-copy-out-e c = search needs
+
+wide-requires : tie.Need-wide-requires Inv-loop μ-loop
+wide-requires c κs = search needs
+
+granted-units-requires : tie.Need-granted-units-requires Inv-loop μ-loop
+granted-units-requires c κs = search needs
+
+add-if1 : tie.Need-add-if1 Inv-loop μ-loop
+add-if1 c = search needs
+
+cast-s : tie.Need-cast-s Inv-loop μ-loop
+cast-s c = search needs
+
+array-write-granted : tie.Need-array-write-granted Inv-loop μ-loop
+array-write-granted c =
+    let l = c .before .before .before .before .before .before in
+    let st = l .before .before .before .before in
+    omega (arith, st .pre .named (l .loop .i) (omega arith), st .pre .few)
+
+add-i : tie.Need-add-i Inv-loop μ-loop
+add-i c = search needs
+
+loop-less : tie.Need-loop-less Inv-loop μ-loop
+loop-less c = search needs
+
+loop-again : tie.Need-loop-again Inv-loop μ-loop
+loop-again c =
+    let l = c .before .before .before .before .before .before in
+    let st = l .before .before .before .before in
+    let named = st .pre .named (l .loop .i) (omega arith) in
+    let few = st .pre .few in
+    let step = serve-more (st .args .n) (st .args .k) (st .args .a .len) (st .args .a .line) (l .loop .i) (l .loop .granted) (omega arith) named (omega arith) (omega arith) in
+    (search needs, search needs, l .loop .inv .2 ∙ step)
+
+shifted-requires : tie.Need-shifted-requires Inv-loop μ-loop
+shifted-requires c κs = search needs
+
+sub-t24 : tie.Need-sub-t24 Inv-loop μ-loop
+sub-t24 c = search needs
+
+cast-t25 : tie.Need-cast-t25 Inv-loop μ-loop
+cast-t25 c = search needs
+
+-- where the loop is left, by its test or by the break, the rest of the line stays
+module _ (c : tie.Left-loop Inv-loop μ-loop) where
+  abbrev start : tie.Start Inv-loop μ-loop
+  start = c .before .before .before .before .before
+
+  left-at : serve (start .args .n) (start .args .k) (grantedOf (start .args .n) (start .args .a .granted)) (cut noEntry (start .args .a .len) (start .args .a .line))
+      ≡ ends-at (start .args .n) (start .args .k) (start .args .a .len) (start .args .a .line) (c .before .loop .i) (c .before .loop .granted)
+  left-at =
+      c .before .loop .inv .2
+      ∙ ⊎-elim
+      (λ w. serve-end (start .args .n) (start .args .k) (start .args .a .len) (start .args .a .line) (c .before .loop .i) (c .before .loop .granted) (omega arith))
+      (λ w. serve-stop (start .args .n) (start .args .k) (start .args .a .len) (start .args .a .line) (c .before .loop .i) (c .before .loop .granted) (omega arith) (omega arith))
+      (c .loop-test .came)
+
+returns : tie.Need-returns Inv-loop μ-loop
+unfolding arbiterOf
+returns c =
+    let l = c .before .before in
+    let st = start (c .before) in
+    let e = left-at (c .before) in
+    let i = l .loop .i in
+    let len = st .args .a .len in
+    let back : len - i + i ≡ len = omega arith in
+    let line : cut noEntry (len - i) (c .shifted .result) ≡ drop i (cut noEntry len (st .args .a .line)) = rw back at (c .shifted .ensures (len - i) (omega arith)) in (
+      ap (λ (w : List Entry). record { granted = grantedOf (st .args .n) (l .loop .granted); line = w }) line ∙ sym (ap (λ (r : Served). r .arbiter) e),
+      (sym (ap (λ (r : Served). r .grants) e), omega arith),
+    )
+
+pub serve-spec : {M : Type 1} → statement M
+serve-spec =
+    tie.close
+    (tie.spec
+    Inv-loop
+    μ-loop
+    cast-len
+    loop-holds
+    mul-e
+    array-copy-out-e
+    wide-requires
+    granted-units-requires
+    add-if1
+    cast-s
+    array-write-granted
+    add-i
+    loop-less
+    loop-again
+    shifted-requires
+    sub-t24
+    cast-t25
+    returns)

@@ -1,0 +1,71 @@
+-- The arbiter call of the field: a station lends its own arbiter record to one call for each message.
+use mathlib.Core.Bool.{Bool, false, cond, not}
+use mathlib.Core.List.{List}
+use Prim.Native.Nat.{ℕ}
+use lib.Dec.{eqb, leb}
+use Rattle.lists.specs.Search.{any}
+use Rattle.stations.specs.Sets.{setOf}
+use Rattle.quorum.specs.Limits.{mostStations, mostUnits, upTo}
+use Rattle.plain.specs.Arbiter.{arrived, served}
+use Rattle.plain.specs.InRange.{arbiterIn}
+use Rattle.plain.specs.Lanes.{linePlaces, passes}
+use Rattle.plain.specs.State.{Arbiter as PlainArbiter}
+use Rattle.plain.specs.declared.Entry.{Entry}
+use Rattle.plain.specs.declared.Message.{Message}
+use Rattle.plain.specs.declared.Message.the-variants.{Request, Release}
+use Rattle.records.specs.View.{arbiterOf}
+use Rattle.records.specs.declared.Arbiter.{Arbiter}
+use Rattle.arbiters.specs.declared.Reply.{Reply}
+use Rattle.arbiters.specs.declared.Upward.{Upward}
+use Rattle.arbiters.specs.declared.Upward.the-variants.{Request as UpRequest, Release as UpRelease}
+
+-- the message that a station sends up
+abbrev pub sentUp : Upward → Message
+sentUp (UpRequest h) = Request h
+sentUp UpRelease = Release
+
+-- "10 (REQUEST only)": units outside 1..k
+abbrev pub badUnits : ℕ → Upward → Bool
+badUnits k (UpRequest h) = not (upTo k h)
+badUnits k UpRelease = false
+
+-- whether station t is among those granted
+abbrev pub isGranted : List Entry → ℕ → Bool
+isGranted grants t = any (λ (e : Entry). eqb (e .station) t) grants
+
+-- "answers with the set of stations granted"
+abbrev pub grantedSet : List Entry → ℕ
+grantedSet grants = setOf (isGranted grants) mostStations
+
+-- the refusal, the set of stations granted, and the lent record afterwards
+pub record Lending : Type 0 where
+  pub refusal : ℕ
+  pub granted : ℕ
+  pub arbiter : PlainArbiter
+
+-- "each answers the empty set and changes nothing"
+abbrev pub turnedAway : PlainArbiter → ℕ → Lending
+turnedAway a r = record { refusal = r; granted = 0; arbiter = a }
+
+-- "That call applies the arbiter's part of Up"; 14 "REQUEST with 12 entries in line": only a REQUEST makes a line longer
+unfoldable pub delivering : ℕ → ℕ → Message → PlainArbiter → Lending
+delivering k s m a =
+    cond (passes linePlaces (arrived m s a .line)) (turnedAway a 14)
+    (record {
+      refusal = 0;
+      granted = grantedSet (served mostStations k (arrived m s a) .grants);
+      arbiter = served mostStations k (arrived m s a) .arbiter;
+    })
+
+-- "Its refusals, in order, are 2, 19 (the same limits with n = 12), 8 (station above 11), 10 (REQUEST only), 14"
+unfoldable pub lending : ℕ → ℕ → Upward → PlainArbiter → Lending
+lending k s m a =
+    cond (not (upTo mostUnits k)) (turnedAway a 2)
+    (cond (not (arbiterIn mostStations k a)) (turnedAway a 19)
+    (cond (leb mostStations s) (turnedAway a 8)
+    (cond (badUnits k m) (turnedAway a 10)
+    (delivering k s (sentUp m) a))))
+
+-- what the code's answer and the record that it leaves say
+unfoldable pub lentOf : Reply → Arbiter → Lending
+lentOf r a = record { refusal = r .refusal; granted = r .granted; arbiter = arbiterOf mostStations a }

@@ -1,0 +1,45 @@
+-- What one message makes of an arbiter, whatever its record holds: the arbiter's part of Up, of n stations.
+use mathlib.Core.Bool.{Bool, cond, not, _&&_}
+use mathlib.Core.List.{List, []}
+use Prim.Native.Nat.{ℕ}
+use lib.Dec.{leb, ltb}
+use Rattle.lists.specs.Cut.{cut}
+use Rattle.quorum.specs.Limits.{mostStations}
+use Rattle.plain.specs.Arbiter.{arrived, served}
+use Rattle.plain.specs.Lanes.{linePlaces, keeps, passes}
+use Rattle.plain.specs.State.{Arbiter as PlainArbiter}
+use Rattle.plain.specs.declared.Entry.{Entry}
+use Rattle.plain.specs.declared.Message.{Message}
+use Rattle.records.specs.View.{noEntry, arbiterOf}
+use Rattle.arbiters.specs.declared.delivery.Delivery.{Delivery}
+
+-- an entry of one of the n stations
+abbrev pub isOf : ℕ → Entry → Bool
+isOf n e = ltb (e .station) n
+
+-- of the range of an arbiter, what its service needs: at most 12 stations, and a line of at most 12 entries, each of one of them
+unfoldable pub servable : ℕ → PlainArbiter → Bool
+servable n a = leb n mostStations && keeps linePlaces (isOf n) (a .line)
+
+-- the refusal, the arbiter afterwards, and the entries granted, in their order
+pub record Telling : Type 0 where
+  pub refusal : ℕ
+  pub arbiter : PlainArbiter
+  pub grants : List Entry
+
+-- a refusal changes nothing and grants nothing
+abbrev pub untold : PlainArbiter → ℕ → Telling
+untold a r = record { refusal = r; arbiter = a; grants = [] }
+
+-- 19 where the line cannot be served, 8 where station s does not exist, 14 where the line would pass its limit; otherwise the message arrives
+-- (a GRANT, which no station sends up, changes nothing), and the line is served
+unfoldable pub telling : ℕ → ℕ → ℕ → Message → PlainArbiter → Telling
+telling n k s m a =
+    cond (not (servable n a)) (untold a 19)
+    (cond (leb n s) (untold a 8)
+    (cond (passes linePlaces (arrived m s a .line)) (untold a 14)
+    (record { refusal = 0; arbiter = served n k (arrived m s a) .arbiter; grants = served n k (arrived m s a) .grants })))
+
+-- what the code's answer says
+unfoldable pub toldOf : ℕ → Delivery → Telling
+toldOf n d = record { refusal = d .refusal; arbiter = arbiterOf n (d .arbiter); grants = cut noEntry (d .grants) (d .line) }

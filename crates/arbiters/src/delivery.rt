@@ -1,0 +1,135 @@
+// The arbiter's part of Up: a message arrives, then the line is served.
+ghost use mathlib.Core.Bool.{false};
+ghost use mathlib.Core.Path.{_≡_};
+ghost use Prim.Native.Nat.{ℕ, _≤_, _<_};
+ghost use Rattle.plain.specs.Arbiter.{arrived};
+ghost use Rattle.plain.specs.Lanes.{linePlaces, passes};
+ghost use Rattle.quorum.specs.Limits.{mostStations};
+ghost use Rattle.records.specs.View.{arbiterOf};
+ghost use Rattle.arbiters.specs.Telling.{servable, untold, telling, toldOf};
+use crate::service;
+use plain::Entry;
+use plain::Message;
+use records::Arbiter;
+use records::LINE_PLACES;
+use records::STATIONS;
+
+// What a message makes of an arbiter. Granted are the first entries of the line. A refusal grants nothing and hands back the arbiter that was
+// given.
+pub struct Delivery {
+    pub refusal: u8,
+    pub arbiter: Arbiter,
+    pub grants: usize,
+    pub line: [Entry; LINE_PLACES],
+}
+
+pub(crate) struct Arrived {
+    pub full: bool,
+    pub arbiter: Arbiter,
+}
+
+// The line alone is looked at: no other part of an arbiter can lead out of the arrays.
+fn is_servable(a: Arbiter, n: usize) -> bool
+    ensures { λ r. ⌜ r ≡ servable n (arbiterOf n a) ⌝ }
+{
+    if STATIONS < n {
+        return false;
+    }
+    let len = a.len as usize;
+    if LINE_PLACES < len {
+        return false;
+    }
+    let line = a.line;
+    let mut i: usize = 0;
+    while i < len {
+        let e = line[i];
+        if n <= e.station as usize {
+            return false;
+        }
+        i += 1;
+    }
+    true
+}
+
+fn refuse(a: Arbiter, refusal: u8) -> Delivery
+    ensures told { λ r. ⌜ ((n : ℕ) → toldOf n r ≡ untold (arbiterOf n a) refusal) ⌝ }
+    ensures same { λ r. ⌜ r .arbiter ≡ a ⌝ }
+{
+    let line = a.line;
+    Delivery {
+        refusal,
+        arbiter: a,
+        grants: 0,
+        line,
+    }
+}
+
+// REQUEST joins the line, unless that is full; RELEASE clears the station's units.
+fn arrive(a: Arbiter, s: usize, m: Message) -> Arrived
+    requires { ⌜ (s < mostStations) × (a .len ≤ linePlaces) ⌝ }
+    ensures full { λ r. ⌜ ((n : ℕ) → r .full ≡ passes linePlaces (arrived m s (arbiterOf n a) .line)) ⌝ }
+    ensures arbiter { λ r. ⌜ (r .full ≡ false → (n : ℕ) → s < n → arbiterOf n (r .arbiter) ≡ arrived m s (arbiterOf n a)) ⌝ }
+{
+    match m {
+        Message::Request(h) => {
+            let len = a.len;
+            let at = len as usize;
+            if LINE_PLACES <= at {
+                return Arrived {
+                    full: true,
+                    arbiter: a,
+                };
+            }
+            let mut next = a;
+            let e = Entry {
+                station: s as u8,
+                units: h,
+            };
+            next.line[at] = e;
+            next.len = len + 1;
+            Arrived {
+                full: false,
+                arbiter: next,
+            }
+        }
+        Message::Release => {
+            let mut next = a;
+            next.granted[s] = 0;
+            Arrived {
+                full: false,
+                arbiter: next,
+            }
+        }
+        Message::Grant => Arrived {
+            full: false,
+            arbiter: a,
+        },
+    }
+}
+
+// The message m of station s reaches an arbiter of n stations with a stock of k units. Any caller may give any of them.
+pub fn deliver(a: Arbiter, n: usize, k: usize, s: usize, m: Message) -> Delivery
+    ensures told { λ r. ⌜ toldOf n r ≡ telling n k s m (arbiterOf n a) ⌝ }
+    ensures refused { λ r. ⌜ (0 < r .refusal → r .arbiter ≡ a) ⌝ }
+{
+    if !is_servable(a, n) {
+        return refuse(a, refusals::OUT_OF_RANGE);
+    }
+    if n <= s {
+        return refuse(a, refusals::NO_SUCH_STATION);
+    }
+    let arrival = arrive(a, s, m);
+    if arrival.full {
+        return refuse(a, refusals::NO_PLACE);
+    }
+    let b = arrival.arbiter;
+    let line = b.line;
+    let service = service::serve(b, n, k);
+    let last = service.arbiter;
+    Delivery {
+        refusal: refusals::NO_REFUSAL,
+        arbiter: last,
+        grants: service.grants,
+        line,
+    }
+}
