@@ -7,3 +7,4 @@ pub mod Counting
 pub mod Changed
 pub mod Totals
 pub mod Arrays
+pub mod Broken

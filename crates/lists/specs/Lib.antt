@@ -3,3 +3,4 @@ pub mod Search
 pub mod Counting
 pub mod At
 pub mod Shown
+pub mod Broken

@@ -1,6 +1,6 @@
 -- How large the numbers of an answer can be, on every table.
 -- Assumes nothing.
-use mathlib.Core.Bool.{Bool, true, false, cond, not}
+use mathlib.Core.Bool.{Bool, true, false, cond}
 use mathlib.Core.List.{List, []}
 use mathlib.Core.Logic.{⊎-elim, by-cases}
 use mathlib.Core.Path.{_≡_}
@@ -10,17 +10,17 @@ use native.Mathlib.Omega.{arith}
 use lib.Dec.{eqb, ltb}
 use lib.ListN.{length}
 use borrow.Author.Tests.{ltb-true, ltb-false, ne-eqb}
-use Rattle.lists.specs.Search.{any, everyBelow}
+use Rattle.lists.specs.Search.{everyBelow}
 use Rattle.lists.proofs.Tests.{known, capped}
 use Rattle.quorum.specs.Answer.{Answer, answerTo, answer}
 use Rattle.quorum.specs.Even.{belongs, even}
 use Rattle.quorum.specs.Family.{Family}
-use Rattle.quorum.specs.Limits.{mostStations, mostUnits, mostQuorums, upTo, outOfPlace, brokenLimit}
+use Rattle.quorum.specs.Limits.{mostStations, brokenLimit}
 use Rattle.quorum.specs.Nested.{nested}
 use Rattle.quorum.specs.Scratch.{scratchBytes}
 use Rattle.quorum.specs.Width.{width, lacksCommon}
 use Rattle.quorum.proofs.Lacking.{first-family-is}
-use Rattle.quorum.proofs.LimitLaws.{limits-kept}
+use Rattle.quorum.proofs.LimitLaws.{limits-kept, limit-most}
 use Rattle.quorum.proofs.Refusals.{refusal-limit, refusal-five, refusal-six, refusal-later}
 use Rattle.quorum.proofs.Widths.{width-le-n}
 
@@ -31,15 +31,6 @@ pub record Bounds (table : List ℕ) (a : Answer) : Type 0 where
   pub even : a .even ≤ 1
   pub family : Family (length table) 0 (a .family)
   pub few : length (a .family) ≤ mostStations
-
--- the limits are 1 to 4
-limit-four : (n k : ℕ) (table : List ℕ) → brokenLimit n k table ≤ 4
-unfolding brokenLimit
-limit-four n k table =
-    capped 4 (not (upTo mostStations n)) (omega arith)
-    (capped 4 (not (upTo mostUnits k)) (omega arith)
-    (capped 4 (not (upTo mostQuorums (length table))) (omega arith)
-    (capped 4 (any (outOfPlace n) table) (omega arith) (omega arith))))
 
 module _ (n : ℕ) (table : List ℕ) where
   -- an answer without a family
@@ -90,4 +81,4 @@ module _ (n k : ℕ) (table : List ℕ) (room : ℕ) where
   answer-bounds =
       by-cases (ℕ-discrete (brokenLimit n k table) 0) within
       (λ (broken : brokenLimit n k table ≡ 0 → ⊥).
-      rw (refusal-limit n k table room broken) (early n table (brokenLimit n k table) (omega arith) (omega (arith, limit-four n k table))))
+      rw (refusal-limit n k table room broken) (early n table (brokenLimit n k table) (omega arith) (omega (arith, limit-most n k table))))

@@ -1,43 +1,30 @@
 -- What the check has found, put together into its answer.
 -- Assumes nothing.
-use mathlib.Core.Bool.{Bool, true, false, cond, not, _&&_}
+use mathlib.Core.Bool.{true, false, cond, _&&_}
 use mathlib.Core.List.{List}
 use mathlib.Core.Path.{_≡_, sym, _∙_}
 use Prim.Native.Nat.{ℕ, _+_, _≤_, _<_}
 use native.Mathlib.Omega.{arith}
 use lib.Dec.{leb}
-use lib.ListN.{length, getD}
+use lib.ListN.{getD}
 use lib.Pow.{ones-lt}
 use borrow.Author.Tests.{eq-eqb, ne-eqb, leb-true}
 use Rattle.lists.specs.Cut.{cut}
-use Rattle.lists.specs.Search.{any}
 use Rattle.lists.proofs.Tests.{and-left}
 use Rattle.stations.specs.Sets.{everyone}
 use Rattle.quorum.specs.Answer.{Answer, refused, answerTo, answer, said}
 use Rattle.quorum.specs.FirstFamily.{firstFamily}
 use Rattle.quorum.specs.Inner.Need.{Needs, noNeed, sizeOf}
-use Rattle.quorum.specs.Limits.{brokenLimit, upTo, outOfPlace, mostStations, mostUnits, mostQuorums}
+use Rattle.quorum.specs.Limits.{brokenLimit}
 use Rattle.quorum.specs.Nested.{nested}
 use Rattle.quorum.specs.Refusal.{refusal}
 use Rattle.quorum.specs.Scratch.{scratchBytes}
 use Rattle.quorum.specs.Width.{width, lacksCommon}
-use Rattle.quorum.proofs.LimitLaws.{limits-kept}
+use Rattle.quorum.proofs.LimitLaws.{limits-kept, limit-most}
 use Rattle.quorum.proofs.Needing.{need-width}
 use Rattle.quorum.proofs.Refusals.{refusal-limit, refusal-five, refusal-six, refusal-later}
 
 -- ---- the refusals 1 to 5
-
-at-most-four : (a b c d : Bool) → cond a 1 (cond b 2 (cond c 3 (cond d 4 0))) ≤ 4
-at-most-four true b c d = omega arith
-at-most-four false true c d = omega arith
-at-most-four false false true d = omega arith
-at-most-four false false false true = omega arith
-at-most-four false false false false = omega arith
-
-limit-le-four : (n k : ℕ) (table : List ℕ) → brokenLimit n k table ≤ 4
-unfolding brokenLimit
-limit-le-four n k table =
-    at-most-four (not (upTo mostStations n)) (not (upTo mostUnits k)) (not (upTo mostQuorums (length table))) (any (outOfPlace n) table)
 
 -- an answer without width
 without-width : (n : ℕ) (table : List ℕ) (r : ℕ) → (r ≡ 0 → ⊥) → r ≤ 5 → refused r ≡ answerTo n table r
@@ -48,7 +35,7 @@ module _ (n k : ℕ) (table : List ℕ) (room : ℕ) where
   pub limit-broken : (r : ℕ) → r ≡ brokenLimit n k table → (r ≡ 0 → ⊥) → refused r ≡ answer n k table room
   unfolding answer
   limit-broken r is some =
-      rw (refusal-limit n k table room (λ e. some (is ∙ e)), ← is) (without-width n table r some (omega (arith, limit-le-four n k table)))
+      rw (refusal-limit n k table room (λ e. some (is ∙ e)), ← is) (without-width n table r some (omega (arith, limit-most n k table)))
 
   module _ (kept : brokenLimit n k table ≡ 0) where
     pub scratch-short : room < scratchBytes → refused 5 ≡ answer n k table room

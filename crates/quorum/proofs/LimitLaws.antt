@@ -13,11 +13,12 @@ use lib.ListN.{length}
 use lib.Pow.{pow-pos}
 use borrow.Author.Tests.{leb-true, leb-false, eqb-false, not-false, le-leb, lt-leb, ne-eqb}
 use Rattle.lists.specs.Search.{any}
-use Rattle.lists.proofs.Tests.{otherwise, clash, and-left, and-right, and-both, or-none}
+use Rattle.lists.proofs.Broken.{Kept, passes-kept, broken-most}
+use Rattle.lists.proofs.Tests.{clash, and-left, and-right, and-both, or-none}
 use Rattle.stations.specs.Member.{member}
 use Rattle.stations.proofs.Members.{member-below, member-shift, some-member}
 use Rattle.quorum.specs.Family.{quorum}
-use Rattle.quorum.specs.Limits.{brokenLimit, upTo, outOfPlace, mostStations, mostUnits, mostQuorums}
+use Rattle.quorum.specs.Limits.{limitTests, brokenLimit, upTo, outOfPlace, mostStations, mostUnits, mostQuorums}
 
 -- the table keeps the limits 1 to 4
 pub record Limits (n k : ℕ) (table : List ℕ) : Type 0 where
@@ -52,13 +53,13 @@ in-place n (q ∷ table) e zero h =
     (eqb-false q 0 some, leb-false (2 ^ n) q small)
 in-place n (q ∷ table) e (suc p) h = in-place n table (or-none (outOfPlace n q) (any (outOfPlace n) table) e .1) p (omega arith)
 
-pub limits-kept : (n k : ℕ) (table : List ℕ) → brokenLimit n k table ≡ 0 → Limits n k table
+pub tests-kept : (n k : ℕ) (table : List ℕ) → brokenLimit n k table ≡ 0 → Kept (limitTests n k table)
 unfolding brokenLimit
+tests-kept n k table e = passes-kept (limitTests n k table) refl e
+
+pub limits-kept : (n k : ℕ) (table : List ℕ) → brokenLimit n k table ≡ 0 → Limits n k table
 limits-kept n k table e =
-    let (one, rest) = otherwise (not (upTo mostStations n)) 1 _ (λ z. omega arith) e in
-    let (two, rest′) = otherwise (not (upTo mostUnits k)) 2 _ (λ z. omega arith) rest in
-    let (three, rest″) = otherwise (not (upTo mostQuorums (length table))) 3 _ (λ z. omega arith) rest′ in
-    let (four, end) = otherwise (any (outOfPlace n) table) 4 0 (λ z. omega arith) rest″ in
+    let (one, (two, (three, (four, end)))) = tests-kept n k table e in
     record {
       stations = up-to mostStations n one;
       stock = up-to mostUnits k two;
@@ -81,3 +82,8 @@ pub kept-limits : (n k : ℕ) (table : List ℕ) → Limits n k table → broken
 unfolding brokenLimit
 kept-limits n k table l =
     rw (upper mostStations n (l .stations), upper mostUnits k (l .stock), upper mostQuorums (length table) (l .quorums), all-in-place n table (l .members))
+
+-- no limit has a larger number
+pub limit-most : (n k : ℕ) (table : List ℕ) → brokenLimit n k table ≤ 4
+unfolding brokenLimit
+limit-most n k table = broken-most 4 (limitTests n k table) refl

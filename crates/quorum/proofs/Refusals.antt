@@ -3,39 +3,43 @@
 use mathlib.Core.Bool.{true, false, cond}
 use mathlib.Core.List.{List}
 use mathlib.Core.Logic.{⊎-elim}
-use mathlib.Core.Path.{_≡_, sym}
+use mathlib.Core.Path.{_≡_, sym, _∙_}
 use Prim.Native.Nat.{ℕ, _≤_, _<_}
 use lib.Dec.{eqb}
-use borrow.Author.Tests.{eq-eqb, ne-eqb, eqb-true, lt-ltb, le-ltb}
+use borrow.Author.Tests.{eqb-true, lt-ltb, le-ltb}
+use Rattle.lists.specs.Broken.{firstBroken}
+use Rattle.lists.proofs.Broken.{broken-at, first-earlier, first-later}
 use Rattle.lists.proofs.Tests.{known}
 use Rattle.quorum.specs.Answer.{answerTo}
-use Rattle.quorum.specs.Limits.{brokenLimit}
+use Rattle.quorum.specs.Limits.{limitTests, brokenLimit}
 use Rattle.quorum.specs.Nested.{nested}
-use Rattle.quorum.specs.Refusal.{refusal}
+use Rattle.quorum.specs.Refusal.{laterTests, refusal}
 use Rattle.quorum.specs.Scratch.{scratchBytes}
 use Rattle.quorum.specs.Width.{lacksCommon}
+use Rattle.quorum.proofs.LimitLaws.{tests-kept}
 
 module _ (n k : ℕ) (table : List ℕ) (room : ℕ) where
   -- a broken limit is answered before all else
   pub refusal-limit : (brokenLimit n k table ≡ 0 → ⊥) → refusal n k table room ≡ brokenLimit n k table
-  unfolding refusal
-  refusal-limit broken = rw (ne-eqb (brokenLimit n k table) 0 broken)
+  unfolding refusal brokenLimit
+  refusal-limit broken = first-earlier (limitTests n k table) (laterTests n k table room) broken
 
   module _ (kept : brokenLimit n k table ≡ 0) where
+    later : refusal n k table room ≡ firstBroken (laterTests n k table room)
+    unfolding refusal
+    later = first-later (limitTests n k table) (laterTests n k table room) (tests-kept n k table kept)
+
     -- short scratch before the table's own faults
     pub refusal-five : room < scratchBytes → refusal n k table room ≡ 5
-    unfolding refusal
-    refusal-five short = rw (eq-eqb (brokenLimit n k table) 0 kept, lt-ltb room scratchBytes short)
+    refusal-five short = later ∙ broken-at 0 (laterTests n k table room) (tt, lt-ltb room scratchBytes short)
 
     -- the lack of a common member, nested or not
     pub refusal-six : scratchBytes ≤ room → lacksCommon n k table ≡ true → refusal n k table room ≡ 6
-    unfolding refusal
-    refusal-six enough lacks = rw (eq-eqb (brokenLimit n k table) 0 kept, le-ltb room scratchBytes enough, lacks)
+    refusal-six enough lacks = later ∙ broken-at 1 (laterTests n k table room) ((le-ltb room scratchBytes enough, tt), lacks)
 
     -- nested only where no common member is lacking
     pub refusal-later : scratchBytes ≤ room → lacksCommon n k table ≡ false → refusal n k table room ≡ cond (nested table) 7 0
-    unfolding refusal
-    refusal-later enough has = rw (eq-eqb (brokenLimit n k table) 0 kept, le-ltb room scratchBytes enough, has)
+    refusal-later enough has = later ∙ rw (le-ltb room scratchBytes enough, has)
 
 -- the answer says the refusal that the tests lead to
 pub answer-refusal : (n : ℕ) (table : List ℕ) (r : ℕ) → answerTo n table r .refusal ≡ r

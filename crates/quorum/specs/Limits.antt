@@ -1,9 +1,10 @@
 -- The limits 1 to 4 of a table: its stations, its stock, its length and its quorums.
-use mathlib.Core.Bool.{Bool, cond, not, _&&_, _||_}
-use mathlib.Core.List.{List}
+use mathlib.Core.Bool.{Bool, not, _&&_, _||_}
+use mathlib.Core.List.{List, [], _∷_}
 use Prim.Native.Nat.{ℕ, _^_}
 use lib.Dec.{leb, eqb}
 use lib.ListN.{length}
+use Rattle.lists.specs.Broken.{Test, _when_, firstBroken}
 use Rattle.lists.specs.Search.{any}
 
 -- "n stations, 1 to 12"
@@ -26,11 +27,15 @@ upTo most x = leb 1 x && leb x most
 abbrev pub outOfPlace : ℕ → ℕ → Bool
 outOfPlace n q = eqb q 0 || leb (2 ^ n) q
 
--- The first of the limits 1 to 4 that the table breaks, 0 if it keeps them all:
 -- 1 "n outside 1..12", 2 "k outside 1..200", 3 "quorums outside 1..64", 4 "a quorum empty or naming a station ≥ n"
+abbrev pub limitTests : ℕ → ℕ → List ℕ → List Test
+limitTests n k table =
+    1 when not (upTo mostStations n)
+    ∷ 2 when not (upTo mostUnits k)
+    ∷ 3 when not (upTo mostQuorums (length table))
+    ∷ 4 when any (outOfPlace n) table
+    ∷ []
+
+-- the first of the limits 1 to 4 that the table breaks, 0 if it keeps them all
 unfoldable pub brokenLimit : ℕ → ℕ → List ℕ → ℕ
-brokenLimit n k table =
-    cond (not (upTo mostStations n)) 1
-    (cond (not (upTo mostUnits k)) 2
-    (cond (not (upTo mostQuorums (length table))) 3
-    (cond (any (outOfPlace n) table) 4 0)))
+brokenLimit n k table = firstBroken (limitTests n k table)

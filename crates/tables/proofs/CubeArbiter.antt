@@ -1,7 +1,7 @@
 -- A cube is accepted for its k. Of any k + 1 quorums, the station whose coordinate i is that of the i-th quorum's own station is in all
 -- of them. Of two stations p and q, the quorum of p has a station that agrees with p where p and q differ and with q nowhere.
 -- Assumes nothing.
-use mathlib.Core.Bool.{Bool, true, false, cond, not}
+use mathlib.Core.Bool.{Bool, true, false, cond}
 use mathlib.Core.List.{List}
 use mathlib.Core.Logic.{by-cases}
 use mathlib.Core.Path.{_≡_, refl, sym, ap, _∙_}
@@ -14,18 +14,18 @@ use lib.ListN.{length, getD}
 use borrow.Author.Tests.{eq-eqb, eqb-true, eqb-false, ne-eqb, ltb-false}
 use Rattle.lists.proofs.Counting.{each-length, each-at}
 use Rattle.lists.proofs.Searches.{some-at, some-found}
-use Rattle.lists.proofs.Tests.{otherwise, clash, or-none}
+use Rattle.lists.proofs.Broken.{passes-kept}
+use Rattle.lists.proofs.Tests.{clash, or-none}
 use Rattle.stations.specs.Member.{member}
 use Rattle.stations.proofs.Built.{member-set, set-below}
 use Rattle.stations.proofs.Members.{member-zero}
 use Rattle.quorum.specs.Accepted.{Accepted}
 use Rattle.quorum.specs.Arbiter.{Common, LiesWithin}
 use Rattle.quorum.specs.Family.{quorum, Numbers}
-use Rattle.quorum.specs.Limits.{mostStations, mostUnits, upTo}
+use Rattle.quorum.specs.Limits.{mostStations, mostUnits}
 use Rattle.quorum.proofs.Promises.{arbiter-accepted, in-every, number-at, Limits, kept-limits, up-to}
-use Rattle.tables.specs.Cube.{cubeStations, stationAt, coordinate, agree, cubeQuorum, cubeTable, noCube, cubeRefusal}
+use Rattle.tables.specs.Cube.{cubeStations, stationAt, coordinate, agree, cubeQuorum, cubeTable, cubeTests, cubeRefusal}
 use Rattle.tables.proofs.Coordinates.{coordinate-lt, station-below, station-has, station-ext}
-use Rattle.tables.proofs.Making.{room-kept}
 
 -- ---- a coordinate that is x where x and y differ, and never y
 
@@ -165,15 +165,14 @@ pub record CubeKept (a k room : ℕ) : Type 0 where
 pub cube-kept : (a k room : ℕ) → cubeRefusal a k room ≡ 0 → CubeKept a k room
 unfolding cubeRefusal
 cube-kept a k room e =
-    let (two, rest) = otherwise (not (upTo mostUnits k)) 2 _ (λ z. omega arith) e in
-    let (seventeen, end) = otherwise (noCube a k) 17 _ (λ z. omega arith) rest in
+    let (two, (seventeen, (few, (enough, end)))) = passes-kept (cubeTests a k room) refl e in
     let (zero-a, large) = or-none (eqb a 0) (ltb mostStations (cubeStations a k)) seventeen in
     let some : a ≡ 0 → ⊥ = eqb-false a 0 zero-a in
     record {
       stock = up-to mostUnits k two;
       some = omega arith;
       stations = ltb-false mostStations (cubeStations a k) large;
-      enough = omega (arith, room-kept (length (cubeTable a k)) room end .1, cube-length a k);
+      enough = omega (arith, ltb-false room (length (cubeTable a k)) enough, cube-length a k);
     }
 
 -- every cube that is written is accepted for its k

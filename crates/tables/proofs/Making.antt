@@ -3,13 +3,10 @@
 use mathlib.Core.List.{List}
 use mathlib.Core.Path.{_≡_, refl, sym, _∙_}
 use Prim.Native.Nat.{ℕ, _≤_, _<_}
-use native.Mathlib.Omega.{arith}
-use lib.Dec.{ltb}
 use lib.ListN.{length}
 use lib.Seq.{sets}
-use borrow.Author.Tests.{lt-ltb, le-ltb, ltb-false, ne-eqb}
+use borrow.Author.Tests.{lt-ltb, le-ltb, ne-eqb}
 use Rattle.lists.proofs.Joined.{sets-front}
-use Rattle.lists.proofs.Tests.{otherwise}
 use Rattle.quorum.specs.Limits.{mostQuorums}
 use Rattle.tables.specs.Made.{noRoom, answer, written, said}
 
@@ -27,13 +24,6 @@ room-short quorums room h l = rw (le-ltb mostQuorums quorums h, lt-ltb room quor
 pub room-enough : (quorums room : ℕ) → quorums ≤ mostQuorums → quorums ≤ room → noRoom quorums room ≡ 0
 unfolding noRoom
 room-enough quorums room h l = rw (le-ltb mostQuorums quorums h, le-ltb room quorums l)
-
-pub room-kept : (quorums room : ℕ) → noRoom quorums room ≡ 0 → (quorums ≤ mostQuorums) × (quorums ≤ room)
-unfolding noRoom
-room-kept quorums room e =
-    let (few, rest) = otherwise (ltb mostQuorums quorums) 18 _ (λ z. omega arith) e in
-    let (enough, end) = otherwise (ltb room quorums) 16 0 (λ z. omega arith) rest in
-    (ltb-false mostQuorums quorums few, ltb-false room quorums enough)
 
 -- ---- the answer and the buffer, where the code found the refusal r
 

@@ -1,24 +1,23 @@
 -- A singleton is accepted for every k: its one quorum has its one station.
 -- Assumes nothing.
-use mathlib.Core.Bool.{true, false, not}
+use mathlib.Core.Bool.{true, false}
 use mathlib.Core.List.{List}
-use mathlib.Core.Path.{_≡_}
+use mathlib.Core.Path.{_≡_, refl}
 use Prim.Native.Nat.{ℕ, zero, suc, _+_, _^_, _≤_, _<_}
 use native.Mathlib.Omega.{arith}
-use lib.Dec.{leb}
 use lib.Pow.{pow-pos, pow-lt}
-use borrow.Author.Tests.{leb-false, le-leb}
-use Rattle.lists.proofs.Tests.{clash, not-true-false, and-both, otherwise}
+use borrow.Author.Tests.{leb-false, le-leb, ltb-false}
+use Rattle.lists.proofs.Broken.{passes-kept}
+use Rattle.lists.proofs.Tests.{clash, not-true-false, and-both}
 use Rattle.stations.proofs.Built.{member-only}
 use Rattle.quorum.specs.Accepted.{Accepted}
 use Rattle.quorum.specs.Arbiter.{InAll}
 use Rattle.quorum.specs.Family.{quorum, Numbers}
-use Rattle.quorum.specs.Limits.{mostStations, mostUnits, upTo}
+use Rattle.quorum.specs.Limits.{mostStations, mostUnits}
 use Rattle.quorum.specs.Nested.{nested}
 use Rattle.quorum.specs.Width.{width, lacksCommon}
 use Rattle.quorum.proofs.Promises.{arbiter-accepted, Limits, kept-limits, up-to, lacks-width, width-le-n}
-use Rattle.tables.specs.Singleton.{singletonTable, singletonRefusal}
-use Rattle.tables.proofs.Making.{room-kept}
+use Rattle.tables.specs.Singleton.{singletonTable, singletonTests, singletonRefusal}
 
 -- what its tests leave
 pub record SingletonKept (n station room : ℕ) : Type 0 where
@@ -29,9 +28,8 @@ pub record SingletonKept (n station room : ℕ) : Type 0 where
 pub singleton-kept : (n station room : ℕ) → singletonRefusal n station room ≡ 0 → SingletonKept n station room
 unfolding singletonRefusal singletonTable
 singleton-kept n station room e =
-    let (one, rest) = otherwise (not (upTo mostStations n)) 1 _ (λ z. omega arith) e in
-    let (eight, end) = otherwise (leb n station) 8 _ (λ z. omega arith) rest in
-    record { stations = up-to mostStations n one; below = leb-false n station eight; enough = room-kept 1 room end .1 }
+    let (one, (eight, (few, (enough, end)))) = passes-kept (singletonTests n station room) refl e in
+    record { stations = up-to mostStations n one; below = leb-false n station eight; enough = ltb-false room 1 enough }
 
 -- the station is in every quorum of every list
 in-all : (station : ℕ) (f : List ℕ) → Numbers 1 f → InAll (singletonTable station) station f

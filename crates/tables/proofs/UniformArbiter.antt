@@ -1,29 +1,28 @@
 -- A uniform table is accepted for its k: k + 1 of its sets leave out fewer stations than there are, so some station is in all of them;
 -- and of two different sets of one size neither lies within the other.
 -- Assumes nothing.
-use mathlib.Core.Bool.{not}
 use mathlib.Core.List.{List}
 use mathlib.Core.Logic.{⊎-elim, by-cases}
-use mathlib.Core.Path.{_≡_, sym, ap, _∙_}
+use mathlib.Core.Path.{_≡_, refl, sym, ap, _∙_}
 use Prim.Native.Nat.{ℕ, _+_, _-_, _*_, _/_, _≤_, _<_}
 use native.Mathlib.Decide.{ℕ-discrete, decLt}
 use native.Mathlib.Nat.{div-add-mod', mod-lt, div-lt-iff-lt-mul}
 use native.Mathlib.Omega.{arith}
 use lib.Bits.{bitAnd}
 use lib.ListN.{length}
-use Rattle.lists.proofs.Tests.{otherwise}
+use borrow.Author.Tests.{ltb-false}
+use Rattle.lists.proofs.Broken.{passes-kept}
 use Rattle.stations.specs.Sets.{everyone, countBelow}
 use Rattle.stations.proofs.Counts.{count-and, count-everyone, count-none, count-fewer, count-le}
 use Rattle.stations.proofs.Members.{within-and}
 use Rattle.quorum.specs.Accepted.{Accepted}
 use Rattle.quorum.specs.Arbiter.{Common, LiesWithin}
 use Rattle.quorum.specs.Family.{quorum, commonWithin, commonPart, Numbers}
-use Rattle.quorum.specs.Limits.{mostStations, mostUnits, mostQuorums, upTo}
+use Rattle.quorum.specs.Limits.{mostStations, mostUnits, mostQuorums}
 use Rattle.quorum.proofs.Promises.{arbiter-accepted, common-or-empty, Limits, kept-limits, up-to}
 use Rattle.tables.specs.Inner.Choose.{choose}
-use Rattle.tables.specs.Uniform.{setsOf, uniformSize, uniformTable, uniformRefusal}
+use Rattle.tables.specs.Uniform.{setsOf, uniformSize, uniformTable, uniformTests, uniformRefusal}
 use Rattle.tables.proofs.Choosing.{choose-some}
-use Rattle.tables.proofs.Making.{room-kept}
 use Rattle.tables.proofs.SetsOfSize.{sets-length, sets-hold, sets-rise}
 
 -- ---- the size
@@ -103,10 +102,13 @@ pub record UniformKept (n k room : ℕ) : Type 0 where
 pub uniform-kept : (n k room : ℕ) → uniformRefusal n k room ≡ 0 → UniformKept n k room
 unfolding uniformRefusal
 uniform-kept n k room e =
-    let (one, rest) = otherwise (not (upTo mostStations n)) 1 _ (λ z. omega arith) e in
-    let (two, end) = otherwise (not (upTo mostUnits k)) 2 _ (λ z. omega arith) rest in
-    let (few, enough) = room-kept (length (uniformTable n k)) room end in
-    record { stations = up-to mostStations n one; stock = up-to mostUnits k two; few = few; enough = enough }
+    let (one, (two, (few, (enough, end)))) = passes-kept (uniformTests n k room) refl e in
+    record {
+      stations = up-to mostStations n one;
+      stock = up-to mostUnits k two;
+      few = ltb-false mostQuorums (length (uniformTable n k)) few;
+      enough = ltb-false room (length (uniformTable n k)) enough;
+    }
 
 -- every uniform table that is written is accepted for its k
 pub uniform-accepted : (n k room : ℕ) → uniformRefusal n k room ≡ 0 → Accepted n k (uniformTable n k)

@@ -1,14 +1,15 @@
 -- The table of a cube: stations that share a coordinate.
-use mathlib.Core.Bool.{Bool, cond, not, _||_}
-use mathlib.Core.List.{List}
+use mathlib.Core.Bool.{Bool, not, _||_}
+use mathlib.Core.List.{List, _∷_}
 use Prim.Native.Nat.{ℕ, zero, suc, _+_, _*_, _/_, _%_, _^_}
 use lib.Dec.{eqb, ltb}
 use lib.ListN.{length}
+use Rattle.lists.specs.Broken.{Test, _when_, firstBroken}
 use Rattle.lists.specs.Counting.{each}
 use Rattle.lists.specs.Search.{someBelow}
 use Rattle.stations.specs.Sets.{setOf}
 use Rattle.quorum.specs.Limits.{mostStations, mostUnits, upTo}
-use Rattle.tables.specs.Made.{noRoom}
+use Rattle.tables.specs.Made.{roomTests}
 
 -- "n = a^(k+1)"
 abbrev pub cubeStations : ℕ → ℕ → ℕ
@@ -40,8 +41,8 @@ abbrev pub noCube : ℕ → ℕ → Bool
 noCube a k = eqb a 0 || ltb mostStations (cubeStations a k)
 
 -- "Order of tests: 1 and 2 where n and k are given, 8, 17, 18, 16": 2 "k outside 1..200", 17 as above
+abbrev pub cubeTests : ℕ → ℕ → ℕ → List Test
+cubeTests a k room = 2 when not (upTo mostUnits k) ∷ 17 when noCube a k ∷ roomTests (length (cubeTable a k)) room
+
 unfoldable pub cubeRefusal : ℕ → ℕ → ℕ → ℕ
-cubeRefusal a k room =
-    cond (not (upTo mostUnits k)) 2
-    (cond (noCube a k) 17
-    (noRoom (length (cubeTable a k)) room))
+cubeRefusal a k room = firstBroken (cubeTests a k room)

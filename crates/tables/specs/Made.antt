@@ -1,15 +1,20 @@
 -- What the maker of a ready-made table answers, and what it leaves in the lent buffer.
 use mathlib.Core.Bool.{cond}
-use mathlib.Core.List.{List, _++_}
+use mathlib.Core.List.{List, [], _∷_, _++_}
 use Prim.Native.Nat.{ℕ}
 use lib.Dec.{eqb, ltb}
 use lib.ListN.{length, drop}
+use Rattle.lists.specs.Broken.{Test, _when_, firstBroken}
 use Rattle.quorum.specs.Limits.{mostQuorums}
 use Rattle.tables.specs.declared.Made.{Made}
 
 -- "18, 16": 18 "ready-made table above 64 quorums", 16 "output buffer too short", counted in entries
+abbrev pub roomTests : ℕ → ℕ → List Test
+roomTests quorums room = 18 when ltb mostQuorums quorums ∷ 16 when ltb room quorums ∷ []
+
+-- the first of the two that is broken
 unfoldable pub noRoom : ℕ → ℕ → ℕ
-noRoom quorums room = cond (ltb mostQuorums quorums) 18 (cond (ltb room quorums) 16 0)
+noRoom quorums room = firstBroken (roomTests quorums room)
 
 -- "Each answers the refusal and the number of quorums written, 0 on a refusal."
 pub record Answer : Type 0 where

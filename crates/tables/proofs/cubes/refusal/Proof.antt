@@ -34,7 +34,7 @@ no-room-requires : tie.Need-no-room-requires
 no-room-requires c κs = search needs
 
 returns-3 : tie.Need-returns-3
-unfolding cubeRefusal
+unfolding cubeRefusal noRoom
 returns-3 c =
     let start = c .before .before .before .before .before in
     let n = c .before .before .stations-of in

@@ -4,6 +4,7 @@ use mathlib.Core.Path.{sym, _∙_}
 use native.Mathlib.Omega.{arith}
 use borrow.Author.Needs.{needs}
 use borrow.Author.Tests.{not-true, not-false, le-leb, lt-leb}
+use Rattle.tables.specs.Made.{noRoom}
 use Rattle.tables.specs.Singleton.{singletonRefusal, singletonTable}
 use Rattle.tables.proofs.singletons.refusal.Statement.{statement}
 use Rattle.tables.proofs.singletons.refusal.Tie as tie
@@ -25,7 +26,7 @@ no-room-requires : tie.Need-no-room-requires
 no-room-requires c κs = search needs
 
 returns-3 : tie.Need-returns-3
-unfolding singletonRefusal singletonTable
+unfolding singletonRefusal singletonTable noRoom
 returns-3 c =
     let start = c .before .before .before .before in
     rw (sym (c .before .before .before .up-to .ensures) ∙ not-false _ (c .before .before .if1 .left), lt-leb (start .args .n) (start .args .station) (omega arith)) (c .no-room .ensures)

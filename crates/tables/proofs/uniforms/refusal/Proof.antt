@@ -45,7 +45,7 @@ no-room-requires : tie.Need-no-room-requires
 no-room-requires c κs = search needs
 
 returns-3 : tie.Need-returns-3
-unfolding uniformRefusal
+unfolding uniformRefusal noRoom
 returns-3 c =
     let start = c .before .before .before .before .before .before .before in
     let sets = c .before .sets-of .ensures ∙ ap (choose (start .args .n)) (c .before .before .size-of .ensures) ∙ sym (uniform-length (start .args .n) (start .args .k)) in
