@@ -1,6 +1,4 @@
 // The ready-made tables: each maker's answer and table, and what the check says of the table.
-ghost use Prim.Native.Nat.{_≤_};
-ghost use Rattle.quorum.specs.Limits.{mostStations};
 use crate::report;
 use crate::table;
 
@@ -98,46 +96,34 @@ fn cube(a: usize, k: usize) {
 }
 
 fn singletons_of(n: usize) {
-    let mut station: usize = 0;
-    while station < n {
+    for station in 0..n {
         singleton(n, station);
-        station += 1;
     }
 }
 
 // From k = n - 1 on the one set of all stations is all that there is.
-fn uniforms_of(n: usize)
-    requires { ⌜ n ≤ mostStations ⌝ }
-{
-    let mut k: usize = 1;
-    while k <= n {
+fn uniforms_of(n: usize) {
+    for k in 1..=n {
         uniform(n, k);
-        k += 1;
     }
 }
 
 fn cubes_of(a: usize) {
-    let mut k: usize = 1;
-    while k <= 3 {
+    for k in 1..4 {
         cube(a, k);
-        k += 1;
     }
 }
 
 fn small_tables() {
-    let mut n: usize = 1;
-    while n <= quorum::MOST_STATIONS {
+    for n in 1..quorum::MOST_STATIONS + 1 {
         singletons_of(n);
         uniforms_of(n);
-        n += 1;
     }
 }
 
 fn cubes() {
-    let mut a: usize = 0;
-    while a <= 4 {
+    for a in 0..5 {
         cubes_of(a);
-        a += 1;
     }
 }
 

@@ -42,11 +42,9 @@ fn counted(t: Tally, a: calls::Answer) -> Tally {
 // Up and Down at every arbiter.
 fn collect(t: Tally, s: usize) -> Tally {
     let mut next = t;
-    let mut j: usize = 0;
-    while j < records::STATIONS {
+    for j in 0..records::STATIONS {
         next = counted(next, calls::up(next.record, s, j));
         next = counted(next, calls::down(next.record, s, j));
-        j += 1;
     }
     next
 }
@@ -54,10 +52,8 @@ fn collect(t: Tally, s: usize) -> Tally {
 // Up at every arbiter, for the RELEASE.
 fn clear(t: Tally, s: usize) -> Tally {
     let mut next = t;
-    let mut j: usize = 0;
-    while j < records::STATIONS {
+    for j in 0..records::STATIONS {
         next = counted(next, calls::up(next.record, s, j));
-        j += 1;
     }
     next
 }
@@ -76,10 +72,8 @@ fn rounds(record: Record) -> Tally {
         refused: 0,
         record,
     };
-    let mut i: usize = 0;
-    while i < ROUNDS {
+    for i in 0..ROUNDS {
         t = round(t, i % records::STATIONS);
-        i += 1;
     }
     t
 }

@@ -1,10 +1,10 @@
 // Refusal 14, on records made by hand: a lane or a line would pass its limit. After each refusal the calls that
 // follow find everything where it was.
-use crate::by_hand;
-use crate::script;
 use plain::Message;
 use plain::Phase;
 use records::Record;
+use scripts::by_hand;
+use scripts::script;
 
 // Once there is a place for the REQUEST it is the last of four. RELEASE to the first member is not sent where that to the
 // second has no place. A GRANT stays where the REQUEST that it leads to has no place.

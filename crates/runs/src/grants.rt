@@ -1,9 +1,9 @@
 // What a station makes of a GRANT that it does not wait for, on records made by hand from P2.
-use crate::by_hand;
-use crate::script;
 use plain::Message;
 use plain::Phase;
 use records::Record;
+use scripts::by_hand;
+use scripts::script;
 
 // To a station that is idle, and to one that holds.
 fn not_collecting(p2: Record) {

@@ -1,5 +1,4 @@
 // Runs the examples of document 01 that are calls of the machine, one line a call.
-mod by_hand;
 mod full;
 mod grants;
 mod marked;
@@ -7,10 +6,10 @@ mod numbers;
 mod opening;
 mod out_of_range;
 mod performed;
-mod report;
-mod script;
 mod service;
 mod unused;
+
+use scripts::by_hand;
 
 // Many start from P2, or from three stations that share three units.
 fn main() {

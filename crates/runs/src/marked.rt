@@ -1,7 +1,7 @@
 // The marked runs of document 01, P11 and P12, and what follows when station 0 gives its unit back.
-use crate::by_hand;
-use crate::script;
 use records::Record;
+use scripts::by_hand;
+use scripts::script;
 
 fn p11_p12(p2: Record) {
     let held = script::play(

@@ -1,11 +1,11 @@
 // The examples of refusals 8 to 13. After each refusal a call goes on as if there had been none.
-use crate::by_hand;
-use crate::report;
-use crate::script;
 use calls::Answer;
 use plain::Message;
 use plain::Phase;
 use records::Record;
+use scripts::by_hand;
+use scripts::report;
+use scripts::script;
 
 // No argument of a call can be larger.
 const LARGEST: usize = 18446744073709551615;

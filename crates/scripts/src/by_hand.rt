@@ -14,19 +14,19 @@ use records::Station;
 use records::UP_PLACES;
 
 // A fresh record, made without a line of its own.
-pub(crate) fn fresh(n: usize, k: usize, quorums: &[u16]) -> Record {
+pub fn fresh(n: usize, k: usize, quorums: &[u16]) -> Record {
     let mut scratch = [0u8; quorum::SCRATCH_BYTES];
     let o = machine::open(n, k, quorums, &mut scratch);
     o.record
 }
 
 // Of n stations 0 alone is asked.
-pub(crate) fn one_asked(n: usize, k: usize) -> Record {
+pub fn one_asked(n: usize, k: usize) -> Record {
     fresh(n, k, &[1])
 }
 
 // The same message in all places of the lane.
-pub(crate) fn lane(len: u8, message: Message) -> Lane {
+pub fn lane(len: u8, message: Message) -> Lane {
     let slot = Slot { message };
     Lane {
         len,
@@ -44,7 +44,7 @@ fn placed(lanes: Lanes, s: usize, j: usize, l: Lane) -> Lanes
     next
 }
 
-pub(crate) fn with_up(r: Record, s: usize, j: usize, l: Lane) -> Record
+pub fn with_up(r: Record, s: usize, j: usize, l: Lane) -> Record
     requires { ⌜ (s < 12) × (j < 12) ⌝ }
 {
     let lanes = r.up;
@@ -53,7 +53,7 @@ pub(crate) fn with_up(r: Record, s: usize, j: usize, l: Lane) -> Record
     next
 }
 
-pub(crate) fn with_down(r: Record, s: usize, j: usize, l: Lane) -> Record
+pub fn with_down(r: Record, s: usize, j: usize, l: Lane) -> Record
     requires { ⌜ (s < 12) × (j < 12) ⌝ }
 {
     let lanes = r.down;
@@ -62,7 +62,7 @@ pub(crate) fn with_down(r: Record, s: usize, j: usize, l: Lane) -> Record
     next
 }
 
-pub(crate) fn with_phase(r: Record, s: usize, phase: Phase) -> Record
+pub fn with_phase(r: Record, s: usize, phase: Phase) -> Record
     requires { ⌜ s < 12 ⌝ }
 {
     let station = Station { phase };
@@ -72,7 +72,7 @@ pub(crate) fn with_phase(r: Record, s: usize, phase: Phase) -> Record
 }
 
 // The same entry in all places of the line, and nothing granted.
-pub(crate) fn waiting(len: u8, station: u8, units: u8) -> Arbiter {
+pub fn waiting(len: u8, station: u8, units: u8) -> Arbiter {
     let entry = Entry { station, units };
     Arbiter {
         granted: [0u8; STATIONS],
@@ -81,7 +81,7 @@ pub(crate) fn waiting(len: u8, station: u8, units: u8) -> Arbiter {
     }
 }
 
-pub(crate) fn with_arbiter(r: Record, j: usize, a: Arbiter) -> Record
+pub fn with_arbiter(r: Record, j: usize, a: Arbiter) -> Record
     requires { ⌜ j < 12 ⌝ }
 {
     let mut next = r;

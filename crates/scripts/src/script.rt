@@ -52,7 +52,7 @@ fn answer(r: Record, call: &[u8]) -> Answer {
 }
 
 // The line's end, and the record that the machine handed back.
-pub(crate) fn answered(a: Answer) -> Record {
+pub fn answered(a: Answer) -> Record {
     report::number(b" refused=", a.refusal as usize);
     report::number(b" entered=", a.entered as usize);
     report::number(b" left=", a.left as usize);
@@ -61,7 +61,7 @@ pub(crate) fn answered(a: Answer) -> Record {
 }
 
 // One call: its line, and the record after it.
-pub(crate) fn call(name: &[u8], r: Record, call: &[u8]) -> Record {
+pub fn call(name: &[u8], r: Record, call: &[u8]) -> Record {
     report::text(name);
     report::text(b" ");
     report::text(call);
@@ -84,7 +84,7 @@ fn calls(name: &[u8], start: Record, text: &[u8]) -> Record {
 }
 
 // The whole example, from the record given.
-pub(crate) fn play(start: Record, example: &[u8]) -> Record {
+pub fn play(start: Record, example: &[u8]) -> Record {
     let size = end_of(example, b':');
     if example.len() - size <= 2 {
         return start;
