@@ -43,7 +43,7 @@ grant-room n s a h = rw (line-length n a) (le-ltb linePlaces (a .len) h)
 
 -- ---- what is stored
 
-pub request-joins : (n s h : ℕ) (a : Arbiter) → length (a .line) ≡ 12 → a .len < 12
+pub request-joins : (n s h : ℕ) (a : Arbiter) → length (a .line) ≡ linePlaces → a .len < linePlaces
     → arbiterOf n (record { granted = a .granted; len = a .len + 1; line = set (a .line) (a .len) (record { station = s; units = h }) }) ≡ arrived (Request h) s (arbiterOf n a)
 unfolding arbiterOf arrived
 request-joins n s h a e l =

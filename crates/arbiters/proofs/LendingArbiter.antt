@@ -2,21 +2,23 @@
 -- Assumes nothing.
 use mathlib.Core.Bool.{true, false}
 use mathlib.Core.List.{List}
-use mathlib.Core.Path.{_≡_}
+use mathlib.Core.Path.{_≡_, ap}
 use Prim.Native.Nat.{ℕ, _+_, _≤_, _<_}
-use lib.ListN.{getD, drop}
-use borrow.Author.Tests.{le-leb, lt-leb, eq-eqb, ne-eqb}
+use lib.Dec.{ltb}
+use lib.ListN.{getD, take, drop}
+use borrow.Author.Tests.{eq-eqb, ne-eqb}
 use Rattle.lists.specs.Cut.{cut}
+use Rattle.lists.proofs.Broken.{Kept, numberAt, BrokenAt, first-later, tests-refuse}
 use Rattle.lists.proofs.Cuts.{drop-cut, drop-cut-end}
-use Rattle.quorum.specs.Limits.{mostStations, mostUnits, upTo}
-use Rattle.plain.specs.Arbiter.{arrived, served}
-use Rattle.plain.specs.InRange.{arbiterIn}
+use Rattle.plain.specs.Arbiter.{arrived}
 use Rattle.plain.specs.Lanes.{linePlaces, passes}
 use Rattle.plain.specs.State.{Arbiter as PlainArbiter}
 use Rattle.plain.specs.declared.Entry.{Entry}
 use Rattle.plain.specs.declared.Message.{Message}
 use Rattle.records.specs.View.{noEntry}
-use Rattle.arbiters.specs.Lent.{sentUp, badUnits, isGranted, grantedSet, turnedAway, delivering, lending}
+use Rattle.arbiters.specs.Inner.Ready.{delivering}
+use Rattle.arbiters.specs.Lent.{sentUp, isGranted, turnedAway, lentAs, lentBy, lentTests, lending}
+use Rattle.arbiters.specs.Telling.{lineFull}
 use Rattle.arbiters.specs.declared.Upward.{Upward}
 
 -- ---- who is granted, from entry i on
@@ -31,38 +33,24 @@ module _ (line : List Entry) (grants t i : ℕ) where
   pub granted-none : grants ≤ i → isGranted (drop i (cut noEntry grants line)) t ≡ false
   granted-none h = rw (drop-cut-end noEntry grants line i h)
 
--- ---- refusals
+-- ---- by its tests
 
+-- the test at place i is broken, and none before it
 module _ (k s : ℕ) (m : Upward) (a : PlainArbiter) where
-  pub lending-2 : upTo mostUnits k ≡ false → lending k s m a ≡ turnedAway a 2
+  pub lending-refused : (i : ℕ) → BrokenAt i (lentTests k s m a) → ltb 0 (numberAt i (lentTests k s m a)) ≡ true → lending k s m a ≡ turnedAway a (numberAt i (lentTests k s m a))
+  unfolding lending lentBy
+  lending-refused i b n = tests-refuse (lentAs k s (sentUp m) a) (turnedAway a) i (lentTests k s m a) b n
+
+  -- 2, 19, 8 and 10 are kept
+  pub lending-delivers : Kept (take 4 (lentTests k s m a)) → lending k s m a ≡ delivering k s (sentUp m) a
   unfolding lending
-  lending-2 e = rw e
-
-  module _ (stock : upTo mostUnits k ≡ true) where
-    pub lending-19 : arbiterIn mostStations k a ≡ false → lending k s m a ≡ turnedAway a 19
-    unfolding lending
-    lending-19 e = rw (stock, e)
-
-    module _ (range : arbiterIn mostStations k a ≡ true) where
-      pub lending-8 : mostStations ≤ s → lending k s m a ≡ turnedAway a 8
-      unfolding lending
-      lending-8 h = rw (stock, range, le-leb mostStations s h)
-
-      module _ (station : s < mostStations) where
-        pub lending-10 : badUnits k m ≡ true → lending k s m a ≡ turnedAway a 10
-        unfolding lending
-        lending-10 e = rw (stock, range, lt-leb mostStations s station, e)
-
-        pub lending-delivers : badUnits k m ≡ false → lending k s m a ≡ delivering k s (sentUp m) a
-        unfolding lending
-        lending-delivers e = rw (stock, range, lt-leb mostStations s station, e)
+  lending-delivers kept = ap (λ (r : ℕ). lentBy r k s (sentUp m) a) (first-later (take 4 (lentTests k s m a)) (drop 4 (lentTests k s m a)) kept)
 
 module _ (k s : ℕ) (m : Message) (a : PlainArbiter) where
-  pub delivering-14 : passes linePlaces (arrived m s a .line) ≡ true → delivering k s m a ≡ turnedAway a 14
-  unfolding delivering
-  delivering-14 e = rw e
+  pub delivering-full : passes linePlaces (arrived m s a .line) ≡ true → delivering k s m a ≡ turnedAway a lineFull
+  unfolding lentBy
+  delivering-full e = rw e
 
-  pub delivering-done : passes linePlaces (arrived m s a .line) ≡ false
-      → delivering k s m a ≡ record { refusal = 0; granted = grantedSet (served mostStations k (arrived m s a) .grants); arbiter = served mostStations k (arrived m s a) .arbiter }
-  unfolding delivering
+  pub delivering-done : passes linePlaces (arrived m s a .line) ≡ false → delivering k s m a ≡ lentAs k s m a
+  unfolding lentBy
   delivering-done e = rw e

@@ -12,7 +12,7 @@ use Rattle.plain.specs.InRange.{entryIn, arbiterIn}
 use Rattle.plain.specs.Lanes.{keeps}
 use Rattle.plain.specs.State.{Arbiter}
 use Rattle.plain.specs.declared.Entry.{Entry}
-use Rattle.arbiters.specs.Lent.{Lending, delivering, lending}
+use Rattle.arbiters.specs.Lent.{Lending, lentBy, lending}
 use Rattle.arbiters.specs.declared.Upward.the-variants.{Request, Release}
 
 said : Lending → List ℕ
@@ -35,7 +35,7 @@ service : (said (lending 3 5 (Request 2) empty) ≡ 0 ∷ 32 ∷ 0 ∷ [])
     × (said (lending 3 0 Release (having 0 3 (wait 1 2 ∷ wait 2 1 ∷ []))) ≡ 0 ∷ 6 ∷ 0 ∷ [])
     × (said (lending 3 0 Release (having 0 3 (wait 1 1 ∷ wait 1 1 ∷ []))) ≡ 0 ∷ 2 ∷ 0 ∷ [])
     × (said (lending 3 11 (Request 1) (having 0 2 [])) ≡ 0 ∷ 2048 ∷ 0 ∷ [])
-unfolding said wait having empty at total setOf arrived fits serve entryIn arbiterIn keeps delivering lending
+unfolding said wait having empty at total setOf arrived fits serve entryIn arbiterIn keeps lentBy lending
 service = (refl, refl, refl, refl, refl)
 
 -- 2, 19, 8, 10 and 14, each with the empty set and the line as it was; a RELEASE has no units to test and takes no place in the line
@@ -48,7 +48,7 @@ refusals : (said (lending 0 0 Release empty) ≡ 2 ∷ 0 ∷ 0 ∷ [])
     × (said (lending 3 0 (Request 4) empty) ≡ 10 ∷ 0 ∷ 0 ∷ [])
     × (said (lending 3 0 (Request 1) (having 0 0 (replicate 12 (wait 1 1)))) ≡ 14 ∷ 0 ∷ 12 ∷ [])
     × (said (lending 3 0 Release (having 0 3 (replicate 12 (wait 1 1)))) ≡ 0 ∷ 2 ∷ 0 ∷ [])
-unfolding said wait having empty at total setOf arrived fits serve entryIn arbiterIn keeps delivering lending
+unfolding said wait having empty at total setOf arrived fits serve entryIn arbiterIn keeps lentBy lending
 refusals = (refl, refl, refl, refl, refl, refl, refl, refl, refl)
 
 -- what is tested earlier is answered
@@ -56,5 +56,5 @@ order : (said (lending 0 0 Release (having 0 4 [])) ≡ 2 ∷ 0 ∷ 0 ∷ [])
     × (said (lending 3 12 Release (having 0 4 [])) ≡ 19 ∷ 0 ∷ 0 ∷ [])
     × (said (lending 3 12 (Request 4) empty) ≡ 8 ∷ 0 ∷ 0 ∷ [])
     × (said (lending 3 0 (Request 4) (having 0 0 (replicate 12 (wait 1 1)))) ≡ 10 ∷ 0 ∷ 12 ∷ [])
-unfolding said wait having empty at total setOf arrived fits serve entryIn arbiterIn keeps delivering lending
+unfolding said wait having empty at total setOf arrived fits serve entryIn arbiterIn keeps lentBy lending
 order = (refl, refl, refl, refl)

@@ -10,8 +10,9 @@ use lib.Dec.{leb, ltb}
 use lib.ListN.{length, getD, length-append, List·getD-append}
 use borrow.Author.Tests.{le-leb, lt-leb, leb-true, lt-ltb, ltb-true}
 use Rattle.lists.specs.Cut.{cut}
-use Rattle.lists.specs.Search.{all, everyBelow}
-use Rattle.lists.proofs.Cuts.{length-cut, getD-cut, all-cut}
+use Rattle.lists.specs.Search.{all}
+use Rattle.lists.proofs.Broken.{numberAt, BrokenAt, tests-done, tests-refuse}
+use Rattle.lists.proofs.Cuts.{length-cut, getD-cut}
 use Rattle.lists.proofs.Searches.{all-at}
 use Rattle.lists.proofs.Tests.{known, and-left, and-right, and-both}
 use Rattle.quorum.specs.Limits.{mostStations, upTo}
@@ -28,7 +29,7 @@ use Rattle.plain.proofs.Serving.{serve-splits}
 use Rattle.records.specs.View.{noEntry, arbiterOf}
 use Rattle.records.specs.declared.Arbiter.{Arbiter}
 use Rattle.arbiters.specs.Inner.Ready.{Named, Serves}
-use Rattle.arbiters.specs.Telling.{isOf, servable, Telling, untold, telling, toldOf}
+use Rattle.arbiters.specs.Telling.{isOf, servable, Telling, untold, lineFull, tellingTests, toldAs, telling, toldOf}
 use Rattle.arbiters.specs.declared.delivery.Delivery.{Delivery}
 
 -- ---- lines that can be served, as the code tests them
@@ -42,11 +43,9 @@ module _ (n : ℕ) (a : Arbiter) where
   unfolding servable keeps arbiterOf
   too-long h = rw (length-cut noEntry (a .len) (a .line), lt-leb (a .len) linePlaces h) (and-false (leb n mostStations))
 
-  pub by-entries : n ≤ mostStations → a .len ≤ linePlaces → servable n (arbiterOf n a) ≡ everyBelow (λ i. isOf n (getD (a .line) i noEntry)) (a .len)
+  pub by-entries : n ≤ mostStations → a .len ≤ linePlaces → servable n (arbiterOf n a) ≡ all (isOf n) (cut noEntry (a .len) (a .line))
   unfolding servable keeps arbiterOf
-  by-entries h l =
-      rw (le-leb n mostStations h, length-cut noEntry (a .len) (a .line), le-leb (a .len) linePlaces l)
-      (all-cut noEntry (isOf n) (a .len) (a .line))
+  by-entries h l = rw (le-leb n mostStations h, length-cut noEntry (a .len) (a .line), le-leb (a .len) linePlaces l)
 
 module _ (n : ℕ) where
   servable-line : (a : PlainArbiter) → servable n a ≡ true → keeps linePlaces (isOf n) (a .line) ≡ true
@@ -97,27 +96,20 @@ module _ (n : ℕ) where
       and-both (le-leb n mostStations few)
       (and-both (le-leb (length (a .line)) linePlaces (keeps-short linePlaces (entryIn n k) (a .line) line)) (all-of k (a .line) (keeps-all linePlaces (entryIn n k) (a .line) line)))
 
--- ---- refusals
+-- ---- by its tests
 
 module _ (n k s : ℕ) (m : Message) (a : PlainArbiter) where
-  pub telling-19 : servable n a ≡ false → telling n k s m a ≡ untold a 19
+  pub telling-refused : (i : ℕ) → BrokenAt i (tellingTests n s m a) → ltb 0 (numberAt i (tellingTests n s m a)) ≡ true → telling n k s m a ≡ untold a (numberAt i (tellingTests n s m a))
   unfolding telling
-  telling-19 e = rw e
+  telling-refused i b d = tests-refuse (toldAs n k s m a) (untold a) i (tellingTests n s m a) b d
 
-  module _ (fit : servable n a ≡ true) where
-    pub telling-8 : n ≤ s → telling n k s m a ≡ untold a 8
+  module _ (fit : servable n a ≡ true) (station : s < n) where
+    pub telling-full : passes linePlaces (arrived m s a .line) ≡ true → telling n k s m a ≡ untold a lineFull
+    telling-full f = telling-refused 2 ((rw fit, (lt-leb n s station, tt)), f) refl
+
+    pub telling-done : passes linePlaces (arrived m s a .line) ≡ false → telling n k s m a ≡ toldAs n k s m a
     unfolding telling
-    telling-8 h = rw (fit, le-leb n s h)
-
-    module _ (station : s < n) where
-      pub telling-14 : passes linePlaces (arrived m s a .line) ≡ true → telling n k s m a ≡ untold a 14
-      unfolding telling
-      telling-14 f = rw (fit, lt-leb n s station, f)
-
-      pub telling-done : passes linePlaces (arrived m s a .line) ≡ false
-          → telling n k s m a ≡ record { refusal = 0; arbiter = served n k (arrived m s a) .arbiter; grants = served n k (arrived m s a) .grants }
-      unfolding telling
-      telling-done f = rw (fit, lt-leb n s station, f)
+    telling-done f = tests-done (toldAs n k s m a) (untold a) (tellingTests n s m a) (rw fit, (lt-leb n s station, (f, tt)))
 
 -- ---- what a caller learns, whose arbiter can be served and whose station exists
 
@@ -145,7 +137,7 @@ module _ (n k s : ℕ) (m : Message) (a : PlainArbiter) (fit : servable n a ≡ 
 
   told-room : d .refusal ≡ 0 → passes linePlaces (joined .line) ≡ false
   told-room none =
-      ⊎-elim (λ (t : passes linePlaces (joined .line) ≡ true). absurd (omega (arith, refusal-is ∙ ap (λ (x : Telling). x .refusal) (telling-14 n k s m a fit station t))))
+      ⊎-elim (λ (t : passes linePlaces (joined .line) ≡ true). absurd (omega (arith, refusal-is ∙ ap (λ (x : Telling). x .refusal) (telling-full n k s m a fit station t))))
       (λ (f : passes linePlaces (joined .line) ≡ false). f)
       (known (passes linePlaces (joined .line)))
 

@@ -1,8 +1,9 @@
 -- The arbiter call of the field: a station lends its own arbiter record to one call for each message.
-use mathlib.Core.Bool.{Bool, false, cond, not}
-use mathlib.Core.List.{List}
+use mathlib.Core.Bool.{Bool, false, not}
+use mathlib.Core.List.{List, [], _∷_}
 use Prim.Native.Nat.{ℕ}
 use lib.Dec.{eqb, leb}
+use Rattle.lists.specs.Broken.{Test, _when_, firstBroken, doneOr}
 use Rattle.lists.specs.Search.{any}
 use Rattle.stations.specs.Sets.{setOf}
 use Rattle.quorum.specs.Limits.{mostStations, mostUnits, upTo}
@@ -15,6 +16,7 @@ use Rattle.plain.specs.declared.Message.{Message}
 use Rattle.plain.specs.declared.Message.the-variants.{Request, Release}
 use Rattle.records.specs.View.{arbiterOf}
 use Rattle.records.specs.declared.Arbiter.{Arbiter}
+use Rattle.arbiters.specs.Telling.{lineFull}
 use Rattle.arbiters.specs.declared.Reply.{Reply}
 use Rattle.arbiters.specs.declared.Upward.{Upward}
 use Rattle.arbiters.specs.declared.Upward.the-variants.{Request as UpRequest, Release as UpRelease}
@@ -47,24 +49,31 @@ pub record Lending : Type 0 where
 abbrev pub turnedAway : PlainArbiter → ℕ → Lending
 turnedAway a r = record { refusal = r; granted = 0; arbiter = a }
 
--- "That call applies the arbiter's part of Up"; 14 "REQUEST with 12 entries in line": only a REQUEST makes a line longer
-unfoldable pub delivering : ℕ → ℕ → Message → PlainArbiter → Lending
-delivering k s m a =
-    cond (passes linePlaces (arrived m s a .line)) (turnedAway a 14)
-    (record {
+-- "That call applies the arbiter's part of Up", on n = 12
+abbrev pub lentAs : ℕ → ℕ → Message → PlainArbiter → Lending
+lentAs k s m a =
+    record {
       refusal = 0;
       granted = grantedSet (served mostStations k (arrived m s a) .grants);
       arbiter = served mostStations k (arrived m s a) .arbiter;
-    })
+    }
+
+-- refused by r, or else (r = 0) applied
+unfoldable pub lentBy : ℕ → ℕ → ℕ → Message → PlainArbiter → Lending
+lentBy r k s m a = doneOr (lentAs k s m a) (turnedAway a) r
 
 -- "Its refusals, in order, are 2, 19 (the same limits with n = 12), 8 (station above 11), 10 (REQUEST only), 14"
+abbrev pub lentTests : ℕ → ℕ → Upward → PlainArbiter → List Test
+lentTests k s m a =
+    2 when not (upTo mostUnits k)
+    ∷ 19 when not (arbiterIn mostStations k a)
+    ∷ 8 when leb mostStations s
+    ∷ 10 when badUnits k m
+    ∷ lineFull when passes linePlaces (arrived (sentUp m) s a .line)
+    ∷ []
+
 unfoldable pub lending : ℕ → ℕ → Upward → PlainArbiter → Lending
-lending k s m a =
-    cond (not (upTo mostUnits k)) (turnedAway a 2)
-    (cond (not (arbiterIn mostStations k a)) (turnedAway a 19)
-    (cond (leb mostStations s) (turnedAway a 8)
-    (cond (badUnits k m) (turnedAway a 10)
-    (delivering k s (sentUp m) a))))
+lending k s m a = lentBy (firstBroken (lentTests k s m a)) k s (sentUp m) a
 
 -- what the code's answer and the record that it leaves say
 unfoldable pub lentOf : Reply → Arbiter → Lending

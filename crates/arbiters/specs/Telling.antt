@@ -1,8 +1,9 @@
 -- What one message makes of an arbiter, whatever its record holds: the arbiter's part of Up, of n stations.
-use mathlib.Core.Bool.{Bool, cond, not, _&&_}
-use mathlib.Core.List.{List, []}
+use mathlib.Core.Bool.{Bool, not, _&&_}
+use mathlib.Core.List.{List, [], _∷_}
 use Prim.Native.Nat.{ℕ}
 use lib.Dec.{leb, ltb}
+use Rattle.lists.specs.Broken.{Test, _when_, firstBroken, doneOr}
 use Rattle.lists.specs.Cut.{cut}
 use Rattle.quorum.specs.Limits.{mostStations}
 use Rattle.plain.specs.Arbiter.{arrived, served}
@@ -31,14 +32,20 @@ pub record Telling : Type 0 where
 abbrev pub untold : PlainArbiter → ℕ → Telling
 untold a r = record { refusal = r; arbiter = a; grants = [] }
 
--- 19 where the line cannot be served, 8 where station s does not exist, 14 where the line would pass its limit; otherwise the message arrives
--- (a GRANT, which no station sends up, changes nothing), and the line is served
+-- 14 "REQUEST with 12 entries in line": only a REQUEST makes a line longer
+abbrev pub lineFull : ℕ
+lineFull = 14
+
+-- 19 where the line cannot be served; 8 where station s does not exist; 14
+abbrev pub tellingTests : ℕ → ℕ → Message → PlainArbiter → List Test
+tellingTests n s m a = 19 when not (servable n a) ∷ 8 when leb n s ∷ lineFull when passes linePlaces (arrived m s a .line) ∷ []
+
+-- the message arrives (a GRANT, which no station sends up, changes nothing), and the line is served
+abbrev pub toldAs : ℕ → ℕ → ℕ → Message → PlainArbiter → Telling
+toldAs n k s m a = record { refusal = 0; arbiter = served n k (arrived m s a) .arbiter; grants = served n k (arrived m s a) .grants }
+
 unfoldable pub telling : ℕ → ℕ → ℕ → Message → PlainArbiter → Telling
-telling n k s m a =
-    cond (not (servable n a)) (untold a 19)
-    (cond (leb n s) (untold a 8)
-    (cond (passes linePlaces (arrived m s a .line)) (untold a 14)
-    (record { refusal = 0; arbiter = served n k (arrived m s a) .arbiter; grants = served n k (arrived m s a) .grants })))
+telling n k s m a = doneOr (toldAs n k s m a) (untold a) (firstBroken (tellingTests n s m a))
 
 -- what the code's answer says
 unfoldable pub toldOf : ℕ → Delivery → Telling

@@ -2,11 +2,13 @@
 ghost use mathlib.Core.Bool.{false};
 ghost use mathlib.Core.Path.{_≡_};
 ghost use Prim.Native.Nat.{ℕ, _≤_, _<_};
+ghost use Rattle.lists.specs.Cut.{cut};
+ghost use Rattle.lists.specs.Search.{all};
 ghost use Rattle.plain.specs.Arbiter.{arrived};
 ghost use Rattle.plain.specs.Lanes.{linePlaces, passes};
 ghost use Rattle.quorum.specs.Limits.{mostStations};
-ghost use Rattle.records.specs.View.{arbiterOf};
-ghost use Rattle.arbiters.specs.Telling.{servable, untold, telling, toldOf};
+ghost use Rattle.records.specs.View.{noEntry, arbiterOf};
+ghost use Rattle.arbiters.specs.Telling.{isOf, servable, untold, telling, toldOf};
 use crate::service;
 use plain::Entry;
 use plain::Message;
@@ -28,6 +30,23 @@ pub(crate) struct Arrived {
     pub arbiter: Arbiter,
 }
 
+fn is_of(e: Entry, n: usize) -> bool
+    ensures { λ r. ⌜ r ≡ isOf n e ⌝ }
+{
+    (e.station as usize) < n
+}
+
+fn all_of(line: [Entry; LINE_PLACES], len: usize, n: usize) -> bool
+    requires { ⌜ len ≤ linePlaces ⌝ }
+    ensures { λ r. ⌜ r ≡ all (isOf n) (cut noEntry len line) ⌝ }
+{
+    let mut i: usize = 0;
+    while i < len && is_of(line[i], n) {
+        i += 1;
+    }
+    i == len
+}
+
 // The line alone is looked at: no other part of an arbiter can lead out of the arrays.
 fn is_servable(a: Arbiter, n: usize) -> bool
     ensures { λ r. ⌜ r ≡ servable n (arbiterOf n a) ⌝ }
@@ -40,15 +59,7 @@ fn is_servable(a: Arbiter, n: usize) -> bool
         return false;
     }
     let line = a.line;
-    let mut i: usize = 0;
-    while i < len {
-        let e = line[i];
-        if n <= e.station as usize {
-            return false;
-        }
-        i += 1;
-    }
-    true
+    all_of(line, len, n)
 }
 
 fn refuse(a: Arbiter, refusal: u8) -> Delivery

@@ -1,32 +1,37 @@
--- Request on a record in range, from the facts that its parts give.
+-- A station asks a member of its quorum, on a record; and Request, which asks the lowest.
 -- Assumes nothing.
 use mathlib.Core.Bool.{true, false}
 use mathlib.Core.List.{_∷_, []}
+use mathlib.Core.Logic.{⊎-elim}
 use mathlib.Core.Path.{_≡_, sym, ap, _∙_}
 use Prim.Native.Nat.{ℕ, _≤_, _<_}
 use native.Mathlib.Omega.{arith}
-use lib.ListN.{length, getD, set, length-append}
-use borrow.Author.Tests.{le-leb, lt-ltb, le-ltb}
-use Rattle.lists.specs.At.{at, at2}
-use Rattle.lists.proofs.Cuts.{length-cut}
-use Rattle.lists.proofs.Tests.{and-both}
+use lib.ListN.{length, getD, take, drop, length-append}
+use borrow.Author.Tests.{lt-ltb, le-ltb}
+use Rattle.lists.specs.At.{at2}
+use Rattle.lists.proofs.Broken.{first-later}
+use Rattle.lists.proofs.Tests.{known}
 use Rattle.stations.specs.Sets.{lowestFrom}
-use Rattle.plain.specs.Answer.{refused}
-use Rattle.plain.specs.Lanes.{upPlaces, passes, sent}
-use Rattle.plain.specs.Request.{lowest, requested, request}
+use Rattle.plain.specs.Answer.{Answer, refused, done, answered}
+use Rattle.plain.specs.Asking.{askPasses, asking}
+use Rattle.plain.specs.Inner.Passed.{Requests}
+use Rattle.plain.specs.Lanes.{upPlaces, noPlace, passes, sent}
+use Rattle.plain.specs.Request.{lowest, requestTests, requestRefusal, requested, request}
 use Rattle.plain.specs.State.{State}
 use Rattle.plain.specs.declared.Message.{Message}
 use Rattle.plain.specs.declared.Message.the-variants.{Request}
 use Rattle.plain.specs.declared.Phase.the-variants.{Collecting}
 use Rattle.plain.proofs.Approaching.{first-member}
+use Rattle.plain.proofs.Passed.{request-kept}
 use Rattle.plain.proofs.Range.{ranged}
 use Rattle.records.specs.View.{laneOf, lanesOf, tableOf, view}
 use Rattle.records.specs.declared.Lane.{Lane}
 use Rattle.records.specs.declared.Lanes.{Lanes}
 use Rattle.records.specs.declared.Record.{Record}
-use Rattle.records.proofs.Viewing.{lane-length, quorum-at, phases-with}
-use Rattle.calls.specs.Inner.Ready.{Asks}
-use Rattle.calls.proofs.Refusing.{Asked, request-14, request-done}
+use Rattle.records.proofs.Storing.{storePhase, storeUp, phase-stored}
+use Rattle.records.proofs.Viewing.{lane-length, quorum-at}
+use Rattle.calls.specs.Inner.Parts.{askAnswer}
+use Rattle.calls.proofs.RecordInRange.{table-length}
 
 -- a lane with one message more, and its limit
 pub lane-full : (limit : ℕ) (l : Lane) (m : Message) → limit ≤ l .len → passes limit (sent (laneOf l) m) ≡ true
@@ -35,55 +40,59 @@ lane-full limit l m h = lt-ltb limit (length (sent (laneOf l) m)) (rw (length-ap
 pub lane-room : (limit : ℕ) (l : Lane) (m : Message) → l .len < limit → passes limit (sent (laneOf l) m) ≡ false
 lane-room limit l m h = le-ltb limit (length (sent (laneOf l) m)) (rw (length-append (laneOf l) (m ∷ []), lane-length l) (omega arith))
 
-module _ (r : Record) (s q h : ℕ) (asks : Asks r s q h) where
-  -- the lowest member, as the code finds it
-  abbrev pub lowest-of : ℕ
-  lowest-of = lowestFrom (getD (r .table) q 0) 0
+-- ---- by the room in the lane
 
-  pub lowest-station : lowest-of < r .n
+module _ (st : State) (s q h m : ℕ) where
+  pub ask-full : askPasses st s h m ≡ true → askAnswer st s q h m ≡ refused st noPlace
+  unfolding answered
+  ask-full f = rw f
+
+  pub ask-room : askPasses st s h m ≡ false → askAnswer st s q h m ≡ done 0 0 (asking st s q h m)
+  unfolding answered
+  ask-room f = rw f
+
+  -- what is learnt of the room from the answer
+  module _ (a : Answer) (is : a ≡ askAnswer st s q h m) where
+    pub was-full : (a .refusal ≡ 0 → ⊥) → askPasses st s h m ≡ true
+    was-full some =
+        ⊎-elim (λ t. t) (λ (f : askPasses st s h m ≡ false). absurd (some (ap (λ (x : Answer). x .refusal) (is ∙ ask-room f)))) (known (askPasses st s h m))
+
+    pub was-room : a .refusal ≡ 0 → askPasses st s h m ≡ false
+    was-room none =
+        ⊎-elim (λ (t : askPasses st s h m ≡ true). absurd (omega (arith, ap (λ (x : Answer). x .refusal) (is ∙ ask-full t)))) (λ f. f) (known (askPasses st s h m))
+
+-- ---- on a record
+
+module _ (r : Record) (s q h m : ℕ) (l : Lane) (at-lane : lanesOf (r .n) (r .up) s m ≡ laneOf l) where
+  pub lane-asked : upPlaces ≤ l .len → askAnswer (view r) s q h m ≡ refused (view r) noPlace
   unfolding view
-  lowest-station =
-      rw (quorum-at r q (asks .quorum)) at
-      (first-member (r .n) (r .stock) (tableOf r) (ranged (view r) (asks .ready .range) .limits) q (omega (arith, asks .quorum, length-cut 0 (r .quorums) (r .table))) .station)
+  lane-asked f = ask-full (view r) s q h m (rw at-lane (lane-full upPlaces l (Request h) f))
 
-  asked : Asked (view r) s q h
-  unfolding view
-  asked =
-      record {
-        range = asks .ready .range;
-        station = asks .station;
-        quorum = omega (arith, asks .quorum, length-cut 0 (r .quorums) (r .table));
-        units = and-both (le-leb 1 h (asks .some)) (le-leb h (r .stock) (asks .units));
-        idle = asks .idle;
-      }
-
-  module _ (member : ℕ) (is : member ≡ lowest-of) (l : Lane) (at-lane : lanesOf (r .n) (r .up) s member ≡ laneOf l) where
-    passing : passes upPlaces (sent (view r .up s (lowest (view r) q)) (Request h)) ≡ passes upPlaces (sent (laneOf l) (Request h))
+  module _ (lanes : Lanes) (put : lanesOf (r .n) lanes ≡ at2 (lanesOf (r .n) (r .up)) s m (sent (laneOf l) (Request h))) (exists : s < r .n) (long : s < length (r .stations)) where
+    states : asking (view r) s q h m ≡ view (storePhase s (Collecting q h m) (storeUp lanes r))
     unfolding view
-    passing = rw (quorum-at r q (asks .quorum), sym is, at-lane)
+    states = rw at-lane (sym (phase-stored (storeUp lanes r) s (Collecting q h m) exists long ∙ rw put))
 
-    pub request-full : upPlaces ≤ l .len → request (view r) s q h ≡ refused (view r) 14
-    request-full f = request-14 (view r) s q h asked (passing ∙ lane-full upPlaces l (Request h) f)
+    pub asked-goes : l .len < upPlaces → askAnswer (view r) s q h m ≡ done 0 0 (view (storePhase s (Collecting q h m) (storeUp lanes r)))
+    unfolding view
+    asked-goes f = ask-room (view r) s q h m (rw at-lane (lane-room upPlaces l (Request h) f)) ∙ ap (done 0 0) states
 
-    abbrev pub asking : Lanes → Record
-    asking lanes =
-        record {
-          n = r .n;
-          stock = r .stock;
-          quorums = r .quorums;
-          table = r .table;
-          stations = set (r .stations) s (record { phase = Collecting q h member });
-          arbiters = r .arbiters;
-          up = lanes;
-          down = r .down;
-        }
+-- ---- Request asks the lowest member
 
-    module _ (lanes : Lanes) (long : s < length (r .stations)) (put : lanesOf (r .n) lanes ≡ at2 (lanesOf (r .n) (r .up)) s member (sent (laneOf l) (Request h))) where
-      states : requested (view r) s q h ≡ view (asking lanes)
-      unfolding view requested
-      states = rw (quorum-at r q (asks .quorum), sym is, put, phases-with (r .n) (r .stations) s (record { phase = Collecting q h member }) (asks .station) long, at-lane)
+pub request-asks : (st : State) (s q h : ℕ) → Requests st s q h → request st s q h ≡ askAnswer st s q h (lowest st q)
+unfolding request requestRefusal requested
+request-asks st s q h r =
+    ap (λ (x : ℕ). answered st x 0 0 (requested st s q h)) (first-later (take 5 (requestTests st s q h)) (drop 5 (requestTests st s q h)) (request-kept st s q h r))
 
-      pub request-goes : l .len < upPlaces → request (view r) s q h ≡ record { refusal = 0; entered = 0; left = 0; state = view (asking lanes) }
-      request-goes f =
-          request-done (view r) s q h asked (passing ∙ lane-room upPlaces l (Request h) f)
-          ∙ ap (λ (st : State). record { refusal = 0; entered = 0; left = 0; state = st }) states
+module _ (r : Record) (s q h : ℕ) (passed : Requests (view r) s q h) where
+  exists : q < r .quorums
+  exists = omega (arith, passed .quorum, table-length r)
+
+  -- the lowest member, as the code finds it
+  pub lowest-is : lowest (view r) q ≡ lowestFrom (getD (r .table) q 0) 0
+  unfolding view
+  lowest-is = ap (λ (set : ℕ). lowestFrom set 0) (quorum-at r q exists)
+
+  pub lowest-station : lowestFrom (getD (r .table) q 0) 0 < r .n
+  unfolding view
+  lowest-station = rw lowest-is at (first-member (r .n) (r .stock) (tableOf r) (ranged (view r) (passed .range) .limits) q (passed .quorum) .station)

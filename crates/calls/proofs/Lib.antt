@@ -1,6 +1,6 @@
 pub mod SendingGrants
-pub mod Refusing
 pub mod RecordInRange
+pub mod TakingMessage
 pub mod DeliveringUp
 pub mod AskingMember
 pub mod ReceivingDown

@@ -1,102 +1,78 @@
--- Down on a record in range, from the facts that its parts give: the station asks, holds or drops the GRANT.
+-- Down on a record, by what the station makes of the message: it asks, it holds, or it drops it.
 -- Assumes nothing.
 use mathlib.Core.Bool.{true, false}
 use mathlib.Core.List.{List}
-use mathlib.Core.Path.{_≡_, refl, ap, _∙_}
-use Prim.Native.Nat.{ℕ, _≤_, _<_}
-use lib.ListN.{length, set}
-use Rattle.lists.specs.At.{at2}
-use Rattle.plain.specs.Answer.{Answer, refused}
-use Rattle.plain.specs.Down.{Taken, takenAt, enters, downPasses, receivedAs, received, down}
-use Rattle.plain.specs.Lanes.{upPlaces, sent}
-use Rattle.plain.specs.State.{State}
+use mathlib.Core.Path.{_≡_, refl, sym, ap, _∙_}
+use Prim.Native.Nat.{ℕ, _<_}
+use lib.ListN.{length}
+use Rattle.plain.specs.Answer.{Answer, refused, done}
+use Rattle.plain.specs.Asking.{askPasses, asking}
+use Rattle.plain.specs.Down.{Taken, enters, downPasses, receivedAs, down}
+use Rattle.plain.specs.Lanes.{noPlace}
+use Rattle.plain.specs.Updates.{withDown}
 use Rattle.plain.specs.declared.Message.{Message}
-use Rattle.plain.specs.declared.Message.the-variants.{Request}
-use Rattle.plain.specs.declared.Phase.the-variants.{Collecting, Holding}
-use Rattle.records.specs.View.{laneOf, lanesOf, view}
-use Rattle.records.specs.declared.Lane.{Lane}
+use Rattle.plain.specs.declared.Phase.the-variants.{Holding}
+use Rattle.plain.proofs.Passed.{down-full, down-done}
+use Rattle.records.specs.View.{lanesOf, view}
 use Rattle.records.specs.declared.Lanes.{Lanes}
 use Rattle.records.specs.declared.Record.{Record}
-use Rattle.records.specs.declared.Station.{Station}
-use Rattle.records.proofs.Viewing.{phases-with}
-use Rattle.calls.specs.Inner.Ready.{Receives}
-use Rattle.calls.proofs.AskingMember.{lane-full, lane-room}
-use Rattle.calls.proofs.Refusing.{down-delivery, delivery-14, delivery-done}
+use Rattle.records.proofs.Storing.{storePhase, storeDown, phase-stored, down-stored}
+use Rattle.calls.specs.Inner.Parts.{askAnswer, Receives}
+use Rattle.calls.proofs.AskingMember.{was-full, was-room, ask-room}
+use Rattle.calls.proofs.TakingMessage.{delivers}
 
-module _ (r : Record) (s j : ℕ) (rest : Lanes) (receives : Receives r s j (lanesOf (r .n) rest)) where
+module _ (r : Record) (s j : ℕ) (rest : Lanes) {t : Taken} (receives : Receives r s j (lanesOf (r .n) rest) t) where
   abbrev lane : List Message
-  lane = receives .takes .lane
+  lane = receives .takes .took .lane
 
-  full-as : (t : Taken) → takenAt (view r) s j ≡ t → downPasses (view r) s t ≡ true → down (view r) s j ≡ refused (view r) 14
+  -- the record without the message
+  abbrev pub without : Record
+  without = storeDown rest r
+
+  without-is : view without ≡ withDown s j lane (view r)
   unfolding view
-  full-as t e f =
-      down-delivery (view r) s j
-      ∙ delivery-14 (view r) s j _ _ _ 0 _ (receives .takes .ready .range) (receives .takes .station) (receives .takes .arbiter) (receives .takes .oldest) (rw e f)
+  without-is = down-stored r rest (receives .takes .took .others)
 
-  received-as : (t : Taken) → takenAt (view r) s j ≡ t → received (view r) s j (view r .down s j) ≡ receivedAs (view r) s j lane t
-  unfolding received
-  received-as t e = rw (receives .takes .oldest) (ap (receivedAs (view r) s j lane) e)
+  full-as : downPasses (view r) s t ≡ true → down (view r) s j ≡ refused (view r) noPlace
+  full-as f = down-full (view r) s j (delivers r s j (receives .takes)) (rw (receives .made) f)
 
-  done-as : (t : Taken) → takenAt (view r) s j ≡ t → downPasses (view r) s t ≡ false
-      → down (view r) s j ≡ record { refusal = 0; entered = enters t; left = 0; state = receivedAs (view r) s j lane t }
+  done-as : downPasses (view r) s t ≡ false → down (view r) s j ≡ done (enters t) 0 (receivedAs (view r) s j lane t)
+  done-as f = rw (receives .made) at (down-done (view r) s j (delivers r s j (receives .takes)) (rw (receives .made) f))
+
+-- it asks: what asking answers on the record without the message, a refusal hands back the whole
+module _ (r : Record) (s j : ℕ) (rest : Lanes) (q h m : ℕ) (receives : Receives r s j (lanesOf (r .n) rest) (Taken.asks q h m))
+    (a : Answer) (is : a ≡ askAnswer (view (storeDown rest r)) s q h m) where
+  pub asks-full : (a .refusal ≡ 0 → ⊥) → down (view r) s j ≡ refused (view r) noPlace
   unfolding view
-  done-as t e f =
-      down-delivery (view r) s j
-      ∙ delivery-done (view r) s j _ _ (enters (takenAt (view r) s j)) 0 (received (view r) s j (view r .down s j)) (receives .takes .ready .range) (receives .takes .station) (receives .takes .arbiter) (receives .takes .oldest) (rw e f)
-      ∙ ap (λ (u : ℕ). record { refusal = 0; entered = u; left = 0; state = received (view r) s j (view r .down s j) }) (ap enters e)
-      ∙ ap (λ (st : State). record { refusal = 0; entered = enters t; left = 0; state = st }) (received-as t e)
+  asks-full some = full-as r s j rest receives (was-full (view (storeDown rest r)) s q h m a is some)
 
-  -- the record with another station, other lanes up, and the rest of the lanes down
-  abbrev pub changed : List Station → Lanes → Record
-  changed stations up =
-      record {
-        n = r .n;
-        stock = r .stock;
-        quorums = r .quorums;
-        table = r .table;
-        stations = stations;
-        arbiters = r .arbiters;
-        up = up;
-        down = rest;
-      }
+  room : a .refusal ≡ 0 → askPasses (view (storeDown rest r)) s h m ≡ false
+  room none = was-room (view (storeDown rest r)) s q h m a is none
 
-  abbrev answer : ℕ → Record → Answer
-  answer entered next = record { refusal = 0; entered = entered; left = 0; state = view next }
+  states : receivedAs (view r) s j (receives .takes .took .lane) (Taken.asks q h m) ≡ asking (view (storeDown rest r)) s q h m
+  unfolding receivedAs
+  states = rw (without-is r s j rest receives)
 
-  -- ---- it asks
+  pub asks-done : a .refusal ≡ 0 → down (view r) s j ≡ a
+  unfolding view
+  asks-done none =
+      done-as r s j rest receives (room none) ∙ ap (done 0 0) states
+      ∙ sym (is ∙ ask-room (view (storeDown rest r)) s q h m (room none))
 
-  module _ (q h m : ℕ) (taken : takenAt (view r) s j ≡ Taken.asks q h m) (l : Lane) (at-lane : lanesOf (r .n) (r .up) s m ≡ laneOf l) where
-    pub asks-full : upPlaces ≤ l .len → down (view r) s j ≡ refused (view r) 14
-    unfolding view
-    asks-full f = full-as (Taken.asks q h m) taken (rw at-lane (lane-full upPlaces l (Request h) f))
+-- it holds
+module _ (r : Record) (s j : ℕ) (rest : Lanes) (q h : ℕ) (receives : Receives r s j (lanesOf (r .n) rest) (Taken.holds q h)) (long : s < length (r .stations)) where
+  held : receivedAs (view r) s j (receives .takes .took .lane) (Taken.holds q h) ≡ view (storePhase s (Holding q h) (storeDown rest r))
+  unfolding receivedAs
+  held = sym (phase-stored (storeDown rest r) s (Holding q h) (receives .takes .took .station) long ∙ rw (without-is r s j rest receives))
 
-    module _ (up : Lanes) (long : s < length (r .stations)) (put : lanesOf (r .n) up ≡ at2 (lanesOf (r .n) (r .up)) s m (sent (laneOf l) (Request h))) where
-      asked : receivedAs (view r) s j lane (Taken.asks q h m) ≡ view (changed (set (r .stations) s (record { phase = Collecting q h m })) up)
-      unfolding view receivedAs
-      asked = rw (put, at-lane, receives .takes .others, phases-with (r .n) (r .stations) s (record { phase = Collecting q h m }) (receives .takes .station) long)
+  pub holds-done : down (view r) s j ≡ done h 0 (view (storePhase s (Holding q h) (storeDown rest r)))
+  holds-done = done-as r s j rest receives refl ∙ ap (done h 0) held
 
-      pub asks-done : l .len < upPlaces → down (view r) s j ≡ answer 0 (changed (set (r .stations) s (record { phase = Collecting q h m })) up)
-      unfolding view
-      asks-done f =
-          done-as (Taken.asks q h m) taken (rw at-lane (lane-room upPlaces l (Request h) f))
-          ∙ ap (λ (st : State). record { refusal = 0; entered = 0; left = 0; state = st }) asked
+-- it drops the message
+module _ (r : Record) (s j : ℕ) (rest : Lanes) (receives : Receives r s j (lanesOf (r .n) rest) Taken.drops) where
+  dropped : receivedAs (view r) s j (receives .takes .took .lane) Taken.drops ≡ view (storeDown rest r)
+  unfolding receivedAs
+  dropped = sym (without-is r s j rest receives)
 
-  -- ---- it holds
-
-  module _ (q h : ℕ) (taken : takenAt (view r) s j ≡ Taken.holds q h) (long : s < length (r .stations)) where
-    held : receivedAs (view r) s j lane (Taken.holds q h) ≡ view (changed (set (r .stations) s (record { phase = Holding q h })) (r .up))
-    unfolding view receivedAs
-    held = rw (receives .takes .others, phases-with (r .n) (r .stations) s (record { phase = Holding q h }) (receives .takes .station) long)
-
-    pub holds-done : down (view r) s j ≡ answer h (changed (set (r .stations) s (record { phase = Holding q h })) (r .up))
-    holds-done = done-as (Taken.holds q h) taken refl ∙ ap (λ (st : State). record { refusal = 0; entered = h; left = 0; state = st }) held
-
-  -- ---- it drops the GRANT
-
-  module _ (taken : takenAt (view r) s j ≡ Taken.drops) where
-    dropped : receivedAs (view r) s j lane Taken.drops ≡ view (changed (r .stations) (r .up))
-    unfolding view receivedAs
-    dropped = rw (receives .takes .others)
-
-    pub drops-done : down (view r) s j ≡ answer 0 (changed (r .stations) (r .up))
-    drops-done = done-as Taken.drops taken refl ∙ ap (λ (st : State). record { refusal = 0; entered = 0; left = 0; state = st }) dropped
+  pub drops-done : down (view r) s j ≡ done 0 0 (view (storeDown rest r))
+  drops-done = done-as r s j rest receives refl ∙ ap (done 0 0) dropped

@@ -9,6 +9,7 @@ use lib.ListN.{length, getD}
 use borrow.Author.Tests.{ltb-true}
 use Rattle.lists.proofs.Cuts.{length-cut}
 use Rattle.lists.proofs.Tests.{and-left}
+use Rattle.quorum.specs.Limits.{mostStations, mostQuorums}
 use Rattle.quorum.proofs.Promises.{Limits, limits-kept}
 use Rattle.plain.specs.InRange.{goesUp, goesDown, phaseIn, arbiterIn, inRange}
 use Rattle.plain.specs.Lanes.{upPlaces, downPlaces}
@@ -18,7 +19,7 @@ use Rattle.plain.proofs.Range.{ranged}
 use Rattle.records.specs.View.{noStation, noArbiter, arbiterOf, lanesOf, tableOf, view}
 use Rattle.records.specs.declared.Record.{Record}
 use Rattle.records.proofs.Viewing.{arbiters-at, phases-at}
-use Rattle.calls.specs.Inner.Ready.{Ready, Wishes}
+use Rattle.calls.specs.Inner.Parts.{Wishes}
 
 module _ (r : Record) where
   pub table-length : length (view r .table) ≡ r .quorums
@@ -29,15 +30,11 @@ module _ (r : Record) where
   unfolding view
   limits e = limits-kept (r .n) (r .stock) (tableOf r) (ranged (view r) e .limits)
 
-  pub ready : inRange (view r) ≡ true → Ready r
-  ready e =
-      let l = limits e in
-      record {
-        range = e;
-        few = l .stations .1;
-        stock = l .stock .1;
-        quorums = omega (arith, l .quorums .1, length-cut 0 (r .quorums) (r .table));
-      }
+  pub few : inRange (view r) ≡ true → r .n ≤ mostStations
+  few e = limits e .stations .1
+
+  pub quorums-few : inRange (view r) ≡ true → r .quorums ≤ mostQuorums
+  quorums-few e = omega (arith, limits e .quorums .1, length-cut 0 (r .quorums) (r .table))
 
   pub arbiter-in : inRange (view r) ≡ true → (j : ℕ) → j < r .n → arbiterIn (r .n) (r .stock) (arbiterOf (r .n) (getD (r .arbiters) j noArbiter)) ≡ true
   unfolding view

@@ -1,3 +1,3 @@
 -- Definitions that contracts of inner functions and proofs cite, and nothing that a caller is promised.
-pub mod Ready
+pub mod Parts
 pub mod Takings

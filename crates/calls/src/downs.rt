@@ -1,26 +1,25 @@
-// Down, on a record in range.
+// What a station makes of a message that comes down.
 ghost use mathlib.Core.Bool.{true};
 ghost use mathlib.Core.List.{List};
 ghost use mathlib.Core.Path.{_≡_};
 ghost use Prim.Native.Nat.{ℕ, _≤_, _<_, _^_};
 ghost use Rattle.lists.specs.Cut.{cut};
-ghost use Rattle.plain.specs.Down.{onward as onwardOf, taken, takenAt, Taken, down};
+ghost use Rattle.plain.specs.Down.{onward as onwardOf, taken, madeOf, Taken, down};
 ghost use Rattle.quorum.specs.Family.{quorum as quorumOf};
 ghost use Rattle.quorum.specs.Limits.{mostStations, mostQuorums};
 ghost use Rattle.records.specs.View.{view, lanesOf};
 ghost use Rattle.calls.specs.Answers.{answerOf};
-ghost use Rattle.calls.specs.Inner.Ready.{Ready, Receives, Wishes};
+ghost use Rattle.calls.specs.Inner.Parts.{Takes, Receives, Wishes};
 ghost use Rattle.calls.specs.Inner.Takings.{takenOf, within};
 use crate::Answer;
-use crate::lanes;
+use crate::asking;
 use plain::Message;
 use plain::Phase;
 use records::Lanes;
 use records::Record;
 use records::Station;
-use records::UP_PLACES;
 
-// What a station makes of a GRANT: it asks the next member of its quorum, it holds its units, or it drops the GRANT.
+// It asks the next member of its quorum, it holds its units, or it drops the message.
 pub(crate) enum Taking {
     Asks { quorum: u8, units: u8, member: u8 },
     Holds { quorum: u8, units: u8 },
@@ -44,7 +43,8 @@ fn onward(set: u16, n: usize, j: usize, quorum: u8, units: u8) -> Taking
     }
 }
 
-fn made_of(
+// What a station in the phase p makes of a GRANT from arbiter j.
+fn granted(
     p: Phase,
     n: usize,
     j: usize,
@@ -75,35 +75,44 @@ fn made_of(
     }
 }
 
-// The station asks the next member: REQUEST goes up to it. `rest` are the lanes down without the GRANT.
+// And of any message; no lane down in range has another than GRANT.
+fn made_of(
+    m: Message,
+    p: Phase,
+    n: usize,
+    j: usize,
+    quorums: usize,
+    table: [u16; quorum::MOST_QUORUMS],
+) -> Taking
+    requires { ⌜ (j < mostStations) × (quorums ≤ mostQuorums) × Wishes n (cut 0 quorums table) p ⌝ }
+    ensures taking { λ r. ⌜ takenOf r ≡ madeOf (cut 0 quorums table) j p m ⌝ }
+    ensures within { λ r. ⌜ within n r ≡ true ⌝ }
+{
+    match m {
+        Message::Request(_) => Taking::Drops,
+        Message::Release => Taking::Drops,
+        Message::Grant => granted(p, n, j, quorums, table),
+    }
+}
+
+// The station asks the next member. `rest` are the lanes down without the message.
 fn asks(r: Record, s: usize, j: usize, rest: Lanes, quorum: u8, units: u8, member: u8) -> Answer
-    requires { ⌜ Receives r s j (lanesOf (r .n) rest) × (takenAt (view r) s j ≡ Taken.asks quorum units member) × (member < r .n) ⌝ }
+    requires { ⌜ Receives r s j (lanesOf (r .n) rest) (Taken.asks quorum units member) × (member < r .n) ⌝ }
     ensures answer { λ a. ⌜ answerOf a ≡ down (view r) s j ⌝ }
     ensures refused { λ a. ⌜ (0 < a .refusal → a .«record» ≡ r) ⌝ }
 {
-    let up = r.up;
-    let to = member as usize;
-    let lane = lanes::lane_at(up, s, to);
-    if UP_PLACES <= lane.len as usize {
-        return crate::refuse(r, refusals::NO_PLACE);
-    }
     let mut next = r;
-    next.up = lanes::with_lane(up, s, to, lanes::put(lane, Message::Request(units)));
     next.down = rest;
-    let station = Station {
-        phase: Phase::Collecting {
-            quorum,
-            units,
-            member,
-        },
-    };
-    next.stations[s] = station;
-    crate::done(next)
+    let a = asking::ask(next, s, quorum, units, member);
+    if a.refusal != refusals::NO_REFUSAL {
+        return crate::refuse(r, crate::NO_PLACE);
+    }
+    a
 }
 
 // The station holds, and its units are entered.
 fn holds(r: Record, s: usize, j: usize, rest: Lanes, quorum: u8, units: u8) -> Answer
-    requires { ⌜ Receives r s j (lanesOf (r .n) rest) × (takenAt (view r) s j ≡ Taken.holds quorum units) ⌝ }
+    requires { ⌜ Receives r s j (lanesOf (r .n) rest) (Taken.holds quorum units) ⌝ }
     ensures answer { λ a. ⌜ answerOf a ≡ down (view r) s j ⌝ }
     ensures accepted { λ a. ⌜ a .refusal ≡ 0 ⌝ }
 {
@@ -113,34 +122,30 @@ fn holds(r: Record, s: usize, j: usize, rest: Lanes, quorum: u8, units: u8) -> A
         phase: Phase::Holding { quorum, units },
     };
     next.stations[s] = station;
-    Answer {
-        refusal: refusals::NO_REFUSAL,
-        entered: units,
-        left: 0,
-        record: next,
-    }
+    crate::done(next, units, 0)
 }
 
-// The GRANT is dropped.
+// The message is dropped.
 fn drops(r: Record, s: usize, j: usize, rest: Lanes) -> Answer
-    requires { ⌜ Receives r s j (lanesOf (r .n) rest) × (takenAt (view r) s j ≡ Taken.drops) ⌝ }
+    requires { ⌜ Receives r s j (lanesOf (r .n) rest) Taken.drops ⌝ }
     ensures answer { λ a. ⌜ answerOf a ≡ down (view r) s j ⌝ }
     ensures accepted { λ a. ⌜ a .refusal ≡ 0 ⌝ }
 {
     let mut next = r;
     next.down = rest;
-    crate::done(next)
+    crate::done(next, 0, 0)
 }
 
-fn receive(r: Record, s: usize, j: usize, rest: Lanes) -> Answer
-    requires { ⌜ Receives r s j (lanesOf (r .n) rest) ⌝ }
+// The message m reaches station s.
+pub(crate) fn receive(r: Record, s: usize, j: usize, m: Message, rest: Lanes) -> Answer
+    requires { ⌜ Takes r s j (view r .down) m (lanesOf (r .n) rest) ⌝ }
     ensures answer { λ a. ⌜ answerOf a ≡ down (view r) s j ⌝ }
     ensures refused { λ a. ⌜ (0 < a .refusal → a .«record» ≡ r) ⌝ }
 {
     let station = r.stations[s];
     let p = station.phase;
     let table = r.table;
-    let made = made_of(p, r.n as usize, j, r.quorums as usize, table);
+    let made = made_of(m, p, r.n as usize, j, r.quorums as usize, table);
     match made {
         Taking::Asks {
             quorum,
@@ -150,25 +155,4 @@ fn receive(r: Record, s: usize, j: usize, rest: Lanes) -> Answer
         Taking::Holds { quorum, units } => holds(r, s, j, rest, quorum, units),
         Taking::Drops => drops(r, s, j, rest),
     }
-}
-
-pub(crate) fn down_in_range(r: Record, s: usize, j: usize) -> Answer
-    requires { ⌜ Ready r ⌝ }
-    ensures answer { λ a. ⌜ answerOf a ≡ down (view r) s j ⌝ }
-    ensures refused { λ a. ⌜ (0 < a .refusal → a .«record» ≡ r) ⌝ }
-{
-    if r.n as usize <= s {
-        return crate::refuse(r, refusals::NO_SUCH_STATION);
-    }
-    if r.n as usize <= j {
-        return crate::refuse(r, refusals::NO_SUCH_STATION);
-    }
-    let down = r.down;
-    let lane = lanes::lane_at(down, s, j);
-    if lane.len == 0 {
-        return crate::refuse(r, refusals::EMPTY_LANE);
-    }
-    let oldest = lanes::take(lane);
-    let rest = lanes::with_lane(down, s, j, oldest.rest);
-    receive(r, s, j, rest)
 }

@@ -1,20 +1,22 @@
-// The four calls of the machine, on a record by value.
+// The four calls of a station on a record by value: each tests its refusals in their order, then does what is asked.
 ghost use mathlib.Core.Path.{_≡_};
 ghost use Prim.Native.Nat.{_<_};
-ghost use Rattle.plain.specs.Answer.{refused as refusedBy};
+ghost use Rattle.plain.specs.Answer.{refused as refusedBy, done as doneWith};
 ghost use Rattle.plain.specs.Down.{down as downOf};
 ghost use Rattle.plain.specs.Release.{release as releaseOf};
-ghost use Rattle.plain.specs.Request.{request as requestOf};
+ghost use Rattle.plain.specs.Request.{isIdle, request as requestOf};
 ghost use Rattle.plain.specs.Up.{up as upOf};
 ghost use Rattle.records.specs.View.{view};
 ghost use Rattle.calls.specs.Answers.{answerOf};
+use plain::Phase;
 use records::Record;
 
+mod asking;
 mod downs;
 mod lanes;
 mod releases;
-mod requests;
 mod sending;
+mod taking;
 mod ups;
 
 // What a call answers. A refused call enters and leaves 0 units and hands back the record that it was given.
@@ -24,6 +26,9 @@ pub struct Answer {
     pub left: u8,
     pub record: Record,
 }
+
+// What a call answers where a lane or line would pass its limit.
+const NO_PLACE: u8 = refusals::NO_PLACE;
 
 fn refuse(r: Record, refusal: u8) -> Answer
     ensures answer { λ a. ⌜ answerOf a ≡ refusedBy (view r) refusal ⌝ }
@@ -37,20 +42,37 @@ fn refuse(r: Record, refusal: u8) -> Answer
     }
 }
 
-// A call that is done, with no units entered or left.
-fn done(r: Record) -> Answer
-    ensures answer { λ a. ⌜ answerOf a ≡ record { refusal = 0; entered = 0; left = 0; state = view r } ⌝ }
+// A call that is done, with so many units entered and left.
+fn done(r: Record, entered: u8, left: u8) -> Answer
+    ensures answer { λ a. ⌜ answerOf a ≡ doneWith entered left (view r) ⌝ }
     ensures accepted { λ a. ⌜ a .refusal ≡ 0 ⌝ }
 {
     Answer {
         refusal: refusals::NO_REFUSAL,
-        entered: 0,
-        left: 0,
+        entered,
+        left,
         record: r,
     }
 }
 
-// Station s asks for h units by quorum q.
+fn is_idle(p: Phase) -> bool
+    ensures { λ r. ⌜ r ≡ isIdle p ⌝ }
+{
+    match p {
+        Phase::Idle => true,
+        Phase::Collecting {
+            quorum: _,
+            units: _,
+            member: _,
+        } => false,
+        Phase::Holding {
+            quorum: _,
+            units: _,
+        } => false,
+    }
+}
+
+// Station s asks for h units by quorum q: it collects, and REQUEST goes up to the quorum's lowest member.
 pub fn request(r: Record, s: usize, q: usize, h: usize) -> Answer
     ensures answer { λ a. ⌜ answerOf a ≡ requestOf (view r) s q h ⌝ }
     ensures refused { λ a. ⌜ (0 < a .refusal → a .«record» ≡ r) ⌝ }
@@ -58,7 +80,22 @@ pub fn request(r: Record, s: usize, q: usize, h: usize) -> Answer
     if !records::in_range(r) {
         return refuse(r, refusals::OUT_OF_RANGE);
     }
-    requests::request_in_range(r, s, q, h)
+    if r.n as usize <= s {
+        return refuse(r, refusals::NO_SUCH_STATION);
+    }
+    if r.quorums as usize <= q {
+        return refuse(r, refusals::NO_SUCH_QUORUM);
+    }
+    if !quorum::limits::up_to(r.stock as usize, h) {
+        return refuse(r, refusals::BAD_UNITS);
+    }
+    let station = r.stations[s];
+    let p = station.phase;
+    if !is_idle(p) {
+        return refuse(r, refusals::NOT_IDLE);
+    }
+    let member = stations::lowest_from(r.table[q], 0);
+    asking::ask(r, s, q as u8, h as u8, member as u8)
 }
 
 // The oldest message of station s to arbiter j is delivered.
@@ -69,7 +106,14 @@ pub fn up(r: Record, s: usize, j: usize) -> Answer
     if !records::in_range(r) {
         return refuse(r, refusals::OUT_OF_RANGE);
     }
-    ups::up_in_range(r, s, j)
+    let lanes = r.up;
+    let taken = taking::take_oldest(lanes, r.n as usize, s, j);
+    if taken.refusal != refusals::NO_REFUSAL {
+        return refuse(r, taken.refusal);
+    }
+    let m = taken.message;
+    let rest = taken.rest;
+    ups::deliver_up(r, s, j, m, rest)
 }
 
 // The oldest message of arbiter j to station s is delivered.
@@ -80,7 +124,14 @@ pub fn down(r: Record, s: usize, j: usize) -> Answer
     if !records::in_range(r) {
         return refuse(r, refusals::OUT_OF_RANGE);
     }
-    downs::down_in_range(r, s, j)
+    let lanes = r.down;
+    let taken = taking::take_oldest(lanes, r.n as usize, s, j);
+    if taken.refusal != refusals::NO_REFUSAL {
+        return refuse(r, taken.refusal);
+    }
+    let m = taken.message;
+    let rest = taken.rest;
+    downs::receive(r, s, j, m, rest)
 }
 
 // Station s gives its units back.
@@ -91,5 +142,18 @@ pub fn release(r: Record, s: usize) -> Answer
     if !records::in_range(r) {
         return refuse(r, refusals::OUT_OF_RANGE);
     }
-    releases::release_in_range(r, s)
+    if r.n as usize <= s {
+        return refuse(r, refusals::NO_SUCH_STATION);
+    }
+    let station = r.stations[s];
+    let p = station.phase;
+    match p {
+        Phase::Idle => refuse(r, refusals::NOT_HOLDING),
+        Phase::Collecting {
+            quorum: _,
+            units: _,
+            member: _,
+        } => refuse(r, refusals::NOT_HOLDING),
+        Phase::Holding { quorum, units } => releases::give_back(r, s, quorum, units),
+    }
 }

@@ -1,15 +1,14 @@
-// Release, on a record in range.
+// A station gives back what it holds.
 ghost use mathlib.Core.Bool.{false};
 ghost use mathlib.Core.Path.{_≡_};
 ghost use Prim.Native.Nat.{ℕ, _≤_, _<_, _^_};
 ghost use Rattle.lists.specs.At.{at};
 ghost use Rattle.lists.specs.Search.{someBelow};
+ghost use Rattle.plain.specs.Inner.Passed.{Releases};
 ghost use Rattle.plain.specs.Release.{releasing, releasePasses, release};
-ghost use Rattle.plain.specs.declared.Phase.the-variants.{Holding};
-ghost use Rattle.quorum.specs.Limits.{mostStations};
+ghost use Rattle.quorum.specs.Limits.{mostStations, mostQuorums};
 ghost use Rattle.records.specs.View.{view, rowOf};
 ghost use Rattle.calls.specs.Answers.{answerOf};
-ghost use Rattle.calls.specs.Inner.Ready.{Ready};
 use crate::Answer;
 use crate::lanes;
 use plain::Message;
@@ -70,8 +69,8 @@ fn release_row(w: Row, n: usize, set: u16) -> Released
 }
 
 // The station is idle, and its units are left.
-fn give_back(r: Record, s: usize, quorum: u8, units: u8) -> Answer
-    requires { ⌜ Ready r × (s < r .n) × (view r .phase s ≡ Holding quorum units) × (quorum < r .quorums) ⌝ }
+pub(crate) fn give_back(r: Record, s: usize, quorum: u8, units: u8) -> Answer
+    requires { ⌜ Releases (view r) s quorum units × (s < mostStations) × (quorum < mostQuorums) ⌝ }
     ensures answer { λ a. ⌜ answerOf a ≡ release (view r) s ⌝ }
     ensures refused { λ a. ⌜ (0 < a .refusal → a .«record» ≡ r) ⌝ }
 {
@@ -80,7 +79,7 @@ fn give_back(r: Record, s: usize, quorum: u8, units: u8) -> Answer
     let row = up.rows[s];
     let released = release_row(row, r.n as usize, r.table[at]);
     if released.full {
-        return crate::refuse(r, refusals::NO_PLACE);
+        return crate::refuse(r, crate::NO_PLACE);
     }
     let longer = released.row;
     up.rows[s] = longer;
@@ -88,31 +87,5 @@ fn give_back(r: Record, s: usize, quorum: u8, units: u8) -> Answer
     next.up = up;
     let station = Station { phase: Phase::Idle };
     next.stations[s] = station;
-    Answer {
-        refusal: refusals::NO_REFUSAL,
-        entered: 0,
-        left: units,
-        record: next,
-    }
-}
-
-pub(crate) fn release_in_range(r: Record, s: usize) -> Answer
-    requires { ⌜ Ready r ⌝ }
-    ensures answer { λ a. ⌜ answerOf a ≡ release (view r) s ⌝ }
-    ensures refused { λ a. ⌜ (0 < a .refusal → a .«record» ≡ r) ⌝ }
-{
-    if r.n as usize <= s {
-        return crate::refuse(r, refusals::NO_SUCH_STATION);
-    }
-    let station = r.stations[s];
-    let p = station.phase;
-    match p {
-        Phase::Idle => crate::refuse(r, refusals::NOT_HOLDING),
-        Phase::Collecting {
-            quorum: _,
-            units: _,
-            member: _,
-        } => crate::refuse(r, refusals::NOT_HOLDING),
-        Phase::Holding { quorum, units } => give_back(r, s, quorum, units),
-    }
+    crate::done(next, 0, units)
 }

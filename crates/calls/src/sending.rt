@@ -7,7 +7,7 @@ ghost use Rattle.lists.specs.Search.{someBelow};
 ghost use Rattle.plain.specs.Lanes.{downPlaces, passes};
 ghost use Rattle.plain.specs.Up.{granting};
 ghost use Rattle.records.specs.View.{noEntry, lanesOf};
-ghost use Rattle.calls.specs.Inner.Ready.{Sends};
+ghost use Rattle.calls.specs.Inner.Parts.{Sends};
 use crate::lanes;
 use plain::Entry;
 use plain::Message;

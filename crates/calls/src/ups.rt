@@ -1,19 +1,18 @@
-// Up, on a record in range.
+// What a message that goes up makes of a record.
 ghost use mathlib.Core.Path.{_≡_};
 ghost use Prim.Native.Nat.{_<_};
 ghost use Rattle.plain.specs.Up.{up};
 ghost use Rattle.records.specs.View.{view, lanesOf};
 ghost use Rattle.calls.specs.Answers.{answerOf};
-ghost use Rattle.calls.specs.Inner.Ready.{Ready, Takes};
+ghost use Rattle.calls.specs.Inner.Parts.{Takes};
 use crate::Answer;
-use crate::lanes;
 use crate::sending;
 use plain::Message;
 use records::Lanes;
 use records::Record;
 
 // The message m reaches arbiter j, and its grants go down. `rest` are the lanes up without the message.
-fn deliver_up(r: Record, s: usize, j: usize, m: Message, rest: Lanes) -> Answer
+pub(crate) fn deliver_up(r: Record, s: usize, j: usize, m: Message, rest: Lanes) -> Answer
     requires { ⌜ Takes r s j (view r .up) m (lanesOf (r .n) rest) ⌝ }
     ensures answer { λ a. ⌜ answerOf a ≡ up (view r) s j ⌝ }
     ensures refused { λ a. ⌜ (0 < a .refusal → a .«record» ≡ r) ⌝ }
@@ -24,39 +23,17 @@ fn deliver_up(r: Record, s: usize, j: usize, m: Message, rest: Lanes) -> Answer
     let before = r.arbiters[j];
     let delivery = arbiters::deliver(before, n, r.stock as usize, s, m);
     if delivery.refusal != refusals::NO_REFUSAL {
-        return crate::refuse(r, refusals::NO_PLACE); // in the line
+        return crate::refuse(r, crate::NO_PLACE); // in the line
     }
     let down = r.down;
     let line = delivery.line;
     let sent = sending::send(down, n, j, line, delivery.grants);
     if sent.full {
-        return crate::refuse(r, refusals::NO_PLACE); // in a lane down
+        return crate::refuse(r, crate::NO_PLACE); // in a lane down
     }
     let after = delivery.arbiter;
     let lanes = sent.lanes;
     next.arbiters[j] = after;
     next.down = lanes;
-    crate::done(next)
-}
-
-pub(crate) fn up_in_range(r: Record, s: usize, j: usize) -> Answer
-    requires { ⌜ Ready r ⌝ }
-    ensures answer { λ a. ⌜ answerOf a ≡ up (view r) s j ⌝ }
-    ensures refused { λ a. ⌜ (0 < a .refusal → a .«record» ≡ r) ⌝ }
-{
-    if r.n as usize <= s {
-        return crate::refuse(r, refusals::NO_SUCH_STATION);
-    }
-    if r.n as usize <= j {
-        return crate::refuse(r, refusals::NO_SUCH_STATION);
-    }
-    let up = r.up;
-    let lane = lanes::lane_at(up, s, j);
-    if lane.len == 0 {
-        return crate::refuse(r, refusals::EMPTY_LANE);
-    }
-    let oldest = lanes::take(lane);
-    let m = oldest.message;
-    let rest = lanes::with_lane(up, s, j, oldest.rest);
-    deliver_up(r, s, j, m, rest)
+    crate::done(next, 0, 0)
 }

@@ -2,13 +2,16 @@
 -- Assumes nothing.
 use mathlib.Core.Bool.{Bool, true, false, _&&_, _||_, and-assoc, and-true, or-assoc, or-false}
 use mathlib.Core.List.{List, [], _∷_, _++_, map}
-use mathlib.Core.Logic.{⊎-elim}
+use mathlib.Core.Logic.{_⊎_, ⊎-elim, by-cases}
 use mathlib.Core.Path.{_≡_, refl, sym, ap, ap₂, _∙_}
 use Prim.Native.Nat.{ℕ, zero, suc, _+_, _≤_, _<_}
+use native.Mathlib.Decide.{ℕ-discrete}
 use native.Mathlib.Numerals.{add-one}
 use native.Mathlib.Omega.{arith}
+use lib.Dec.{eqb}
 use lib.ListN.{length, getD, drop, drop-of-length-le}
 use lib.Seq.{drop-cons}
+use borrow.Author.Tests.{eq-eqb, ne-eqb}
 use Rattle.lists.specs.Search.{any, all, firstOf, everyBelow, someBelow}
 use Rattle.lists.proofs.Below.{below-suc}
 use Rattle.lists.proofs.Tests.{known, clash, not-true-false, and-left, and-right, and-both, or-none, or-left, or-right, or-cases}
@@ -139,20 +142,22 @@ pub some-first : (f : ℕ → Bool) (n : ℕ) → someBelow f (suc n) ≡ (f 0 |
 some-first f zero = sym (or-false (f 0))
 some-first f (suc n) = ap (λ (b : Bool). b || f (suc n)) (some-first f n) ∙ or-assoc (f 0) (someBelow (λ i. f (suc i)) n) (f (suc n))
 
--- ---- a loop over the numbers from 0 on that stops at the first of which f does not hold
+-- ---- a loop over the numbers from 0 on, below n, that goes on while f holds
 
--- f holds of every number below i
-pub record Tested (f : ℕ → Bool) (i : ℕ) : Type 0 where
+-- the loop is at i, and f holds of every number before
+pub record Tested (f : ℕ → Bool) (n i : ℕ) : Type 0 where
+  pub within : i ≤ n
   pub every : everyBelow f i ≡ true
 
-pub tested-none : (f : ℕ → Bool) → Tested f 0
-tested-none f = record { every = refl }
+pub tested-none : (f : ℕ → Bool) (n : ℕ) → Tested f n 0
+tested-none f n = record { within = omega arith; every = refl }
 
-pub tested-more : {f : ℕ → Bool} {i : ℕ} → Tested f i → f i ≡ true → Tested f (i + 1)
-tested-more {f} {i} t e = record { every = rw (add-one i) (and-both (t .every) e) }
+pub tested-more : {f : ℕ → Bool} {n i : ℕ} {b : Bool} → Tested f n i → i < n → b ≡ f i → b ≡ true → Tested f n (i + 1)
+tested-more {f} {n} {i} t h p e = record { within = omega arith; every = rw (add-one i) (and-both (t .every) (sym p ∙ e)) }
 
-pub tested-fails : {f : ℕ → Bool} {i n : ℕ} → Tested f i → i < n → f i ≡ false → everyBelow f n ≡ false
-tested-fails {f} {i} {n} t h e = every-false f n i h e
-
-pub tested-end : {f : ℕ → Bool} {i n : ℕ} → Tested f i → i ≡ n → everyBelow f n ≡ true
-tested-end {f} t e = ap (everyBelow f) (sym e) ∙ t .every
+-- left at i, by one of two ways: f holds of every number below n if i is n
+pub tested-left : {A B : Type 0} {f : ℕ → Bool} {n i : ℕ} → Tested f n i → (A → f i ≡ false) → (B → n ≤ i) → A ⊎ B → eqb i n ≡ everyBelow f n
+tested-left {A} {B} {f} {n} {i} t fails end w =
+    by-cases (ℕ-discrete i n)
+    (λ (e : i ≡ n). eq-eqb i n e ∙ sym (ap (everyBelow f) (sym e) ∙ t .every))
+    (λ (o : i ≡ n → ⊥). ne-eqb i n o ∙ sym (⊎-elim (λ a. every-false f n i (let l = t .within in omega arith) (fails a)) (λ b. absurd (let l = t .within in let m = end b in omega arith)) w))

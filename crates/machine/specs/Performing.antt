@@ -4,6 +4,7 @@ use mathlib.Core.List.{List, [], _∷_, _++_}
 use Prim.Native.Nat.{ℕ, _*_}
 use lib.Dec.{eqb, ltb}
 use lib.ListN.{length, drop}
+use Rattle.lists.specs.Broken.{Test, _when_, firstBroken}
 use Rattle.plain.specs.Answer.{Answer}
 use Rattle.plain.specs.Run.{Call, run, after}
 use Rattle.plain.specs.State.{State}
@@ -40,8 +41,11 @@ wordsOf [] = []
 wordsOf (a ∷ answers) = a .refusal ∷ a .entered ∷ a .left ∷ wordsOf answers
 
 -- 15 where a call is "not of the form", 16 where the answers find no room ("15 before 16"); then no call is made
+abbrev pub listTests : List ℕ → ℕ → List Test
+listTests calls room = 15 when not (wellFormed calls) ∷ 16 when ltb room (3 * length (callsOf calls)) ∷ []
+
 unfoldable pub listRefusal : List ℕ → ℕ → ℕ
-listRefusal calls room = cond (not (wellFormed calls)) 15 (cond (ltb room (3 * length (callsOf calls))) 16 0)
+listRefusal calls room = firstBroken (listTests calls room)
 
 -- the refusal of the list, and the record after it
 pub record Performance : Type 0 where

@@ -19,15 +19,15 @@ use Rattle.quorum.specs.Width.{emptied, leastSize, width, lacksCommon}
 use Rattle.tables.specs.Cube.{coordinate, agree, cubeQuorum, cubeTable}
 use Rattle.plain.specs.Answer.{Answer, answered}
 use Rattle.plain.specs.Arbiter.{arrived, fits, serve, unitsIn}
-use Rattle.plain.specs.Delivery.{laneRefusal, deliveryRefusal}
-use Rattle.plain.specs.Down.{onward, taken, receivedAs, received, down}
+use Rattle.plain.specs.Delivery.{deliveryRefusal}
+use Rattle.plain.specs.Down.{onward, taken, receivedAs, received, entering, down}
 use Rattle.plain.specs.InRange.{goesUp, goesDown, phaseIn, entryIn, arbiterIn, inRange}
 use Rattle.plain.specs.Lanes.{keeps}
-use Rattle.plain.specs.Release.{releasing, releaseRefusal, released, release}
+use Rattle.plain.specs.Release.{releasing, releaseRefusal, givenBack, released, release}
 use Rattle.plain.specs.Request.{requestRefusal, requested, request}
 use Rattle.plain.specs.Run.{Call, call, run}
 use Rattle.plain.specs.State.{fresh}
-use Rattle.plain.specs.Up.{granting, delivered, up}
+use Rattle.plain.specs.Up.{granting, deliveredOf, delivered, up}
 use Rattle.plain.proofs.HandMade.{Call-says, said, done, enters, refuses}
 
 -- what a marked case says: the check's answer on a table, a quorum of a ready-made table, or the answers of a run
@@ -112,5 +112,5 @@ pub marked :
     -- P12
     ∷ Says.calls (done ∷ done ∷ done ∷ done ∷ enters 1 ∷ done ∷ done ∷ refuses 13 ∷ [])
     ∷ [])
-unfolding answer answerTo refusal nested even belongs width emptied leastSize firstFamily lacksCommon commonWithin families brokenLimit member contains cubeTable each cubeQuorum setOf agree coordinate lowestAmong lowestFrom at total fresh answered arrived fits serve unitsIn onward taken receivedAs received down goesUp goesDown keeps phaseIn entryIn arbiterIn inRange releasing releaseRefusal released release requestRefusal requested request call run granting laneRefusal deliveryRefusal delivered up
+unfolding answer answerTo refusal nested even belongs width emptied leastSize firstFamily lacksCommon commonWithin families brokenLimit member contains cubeTable each cubeQuorum setOf agree coordinate lowestAmong lowestFrom at total fresh answered arrived fits serve unitsIn onward taken receivedAs received entering down goesUp goesDown keeps phaseIn entryIn arbiterIn inRange releasing releaseRefusal givenBack released release requestRefusal requested request call run granting deliveryRefusal deliveredOf delivered up
 marked = refl

@@ -17,7 +17,16 @@ use Rattle.stations.proofs.Members.{member-below, member-station, some-member}
 use Rattle.quorum.specs.Family.{quorum}
 use Rattle.quorum.specs.Limits.{brokenLimit}
 use Rattle.quorum.proofs.Promises.{Limits, limits-kept}
-use Rattle.plain.specs.Down.{Taken, onward}
+use Rattle.plain.specs.Down.{Taken, onward, taken, madeOf}
+use Rattle.plain.specs.declared.Message.{Message}
+use Rattle.plain.specs.declared.Message.the-variants.{Request, Release, Grant}
+use Rattle.plain.specs.declared.Phase.{Phase}
+
+-- what a station makes of any message: nothing, or what it makes of a GRANT
+pub made-as : (P : Taken → Type 0) (table : List ℕ) (j : ℕ) (p : Phase) → P Taken.drops → P (taken table j p) → (m : Message) → P (madeOf table j p m)
+made-as P table j p drops grant (Request h) = drops
+made-as P table j p drops grant Release = drops
+made-as P table j p drops grant Grant = grant
 
 -- m is the lowest member from i on of a quorum of n stations
 pub record Lowest-member (n q i m : ℕ) : Type 0 where

@@ -1,34 +1,44 @@
 -- What holds of every call's answer: one case for each call that is done, and one for a refusal.
 -- Assumes nothing.
+use mathlib.Core.Bool.{false}
+use mathlib.Core.List.{List}
+use mathlib.Core.Path.{_≡_}
 use Prim.Native.Nat.{ℕ}
-use Rattle.plain.specs.Answer.{Answer, refused}
-use Rattle.plain.specs.Down.{takenAt, enters, downPasses, downRefusal, received, down}
-use Rattle.plain.specs.Release.{releaseRefusal, released, held, release}
-use Rattle.plain.specs.Request.{requestRefusal, requested, request}
+use Rattle.plain.specs.Answer.{Answer, refused, done}
+use Rattle.plain.specs.Down.{takenAt, enters, downPassesOf, downRefusal, receivedAs, received, entering, down}
+use Rattle.plain.specs.Inner.Passed.{Requests, Delivers, Releases}
+use Rattle.plain.specs.Release.{somePasses, releaseRefusal, givenBack, released, held, release}
+use Rattle.plain.specs.Request.{requestPasses, requestRefusal, requested, request}
 use Rattle.plain.specs.Run.{Call, call}
 use Rattle.plain.specs.State.{State}
-use Rattle.plain.specs.Up.{upPasses, upRefusal, delivered, up}
-use Rattle.plain.proofs.Passed.{answered-as, Requestable, requestable, Delivers, delivers, Releases, releases}
+use Rattle.plain.specs.Up.{upPasses, upRefusal, deliveredOf, delivered, up}
+use Rattle.plain.specs.declared.Message.{Message}
+use Rattle.plain.proofs.Answered.{answered-as}
+use Rattle.plain.proofs.Passed.{requests, delivers, releases}
 
--- the answer to a call that was done
-abbrev pub answer-done : ℕ → ℕ → State → Answer
-answer-done entered left next = record { refusal = 0; entered = entered; left = left; state = next }
-
+-- that a lane or line has room stands last, and apart from what else the call has passed
 pub record Each-call (P : Answer → Type 0) (st : State) : Type 0 where
   pub is-refused : (r : ℕ) → P (refused st r)
-  pub by-request : (s q h : ℕ) → Requestable st s q h → P (answer-done 0 0 (requested st s q h))
-  pub by-up : (s j : ℕ) → Delivers st s j (st .up s j) (upPasses st s j) → P (answer-done 0 0 (delivered st s j (st .up s j)))
-  pub by-down : (s j : ℕ) → Delivers st s j (st .down s j) (λ m. downPasses st s (takenAt st s j))
-      → P (answer-done (enters (takenAt st s j)) 0 (received st s j (st .down s j)))
-  pub by-release : (s : ℕ) → Releases st s → P (answer-done 0 (held (st .phase s)) (released st s (st .phase s)))
+  pub by-request : (s q h : ℕ) → Requests st s q h → requestPasses st s q h ≡ false → P (done 0 0 (requested st s q h))
+  pub by-up : (s j : ℕ) (m : Message) (rest : List Message) → Delivers st s j (st .up s j) m rest → upPasses st s j m ≡ false
+      → P (done 0 0 (deliveredOf st s j m rest))
+  pub by-down : (s j : ℕ) (m : Message) (rest : List Message) → Delivers st s j (st .down s j) m rest → downPassesOf st s j m ≡ false
+      → P (done (enters (takenAt st s j m)) 0 (receivedAs st s j rest (takenAt st s j m)))
+  pub by-release : (s q h : ℕ) → Releases st s q h → somePasses st s q ≡ false → P (done 0 h (givenBack st s q))
 
 pub each-call : (P : Answer → Type 0) (st : State) → Each-call P st → (c : Call) → P (call st c)
-unfolding call request up down release
+unfolding call request up down release delivered received entering released
 each-call P st e (Call.Request s q h) =
-    answered-as P st (requestRefusal st s q h) 0 0 (requested st s q h) (λ z. e .by-request s q h (requestable st s q h z)) (e .is-refused (requestRefusal st s q h))
+    answered-as st 0 0 (requested st s q h) P (requestRefusal st s q h) (λ z. let (r, room) = requests st s q h z in e .by-request s q h r room) (e .is-refused (requestRefusal st s q h))
 each-call P st e (Call.Up s j) =
-    answered-as P st (upRefusal st s j) 0 0 (delivered st s j (st .up s j)) (λ z. e .by-up s j (delivers st s j _ _ z)) (e .is-refused (upRefusal st s j))
+    answered-as st 0 0 (delivered st s j (st .up s j)) P (upRefusal st s j)
+    (λ z. let (m, rest, d, room) = delivers st s j (st .up s j) (upPasses st s j) z in rw (d .taken) (e .by-up s j m rest d room))
+    (e .is-refused (upRefusal st s j))
 each-call P st e (Call.Down s j) =
-    answered-as P st (downRefusal st s j) (enters (takenAt st s j)) 0 (received st s j (st .down s j)) (λ z. e .by-down s j (delivers st s j _ _ z)) (e .is-refused (downRefusal st s j))
+    answered-as st (entering st s j (st .down s j)) 0 (received st s j (st .down s j)) P (downRefusal st s j)
+    (λ z. let (m, rest, d, room) = delivers st s j (st .down s j) (downPassesOf st s j) z in rw (d .taken) (e .by-down s j m rest d room))
+    (e .is-refused (downRefusal st s j))
 each-call P st e (Call.Release s) =
-    answered-as P st (releaseRefusal st s) 0 (held (st .phase s)) (released st s (st .phase s)) (λ z. e .by-release s (releases st s z)) (e .is-refused (releaseRefusal st s))
+    answered-as st 0 (held (st .phase s)) (released st s (st .phase s)) P (releaseRefusal st s)
+    (λ z. let (q, h, r, room) = releases st s z in rw (r .holding) (e .by-release s q h r room))
+    (e .is-refused (releaseRefusal st s))

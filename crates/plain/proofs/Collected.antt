@@ -30,7 +30,7 @@ use Rattle.plain.proofs.Held.{heldBy, held-at}
 use Rattle.plain.proofs.Range.{ranged}
 use Rattle.plain.proofs.SameTable.{Same-table, calls-same}
 use Rattle.plain.proofs.Visited.{grantedTo, visited, visit-done, visit}
-use Rattle.plain.proofs.Visiting.{Calm, toward, Visiting, request-done, request-visits, pass-by}
+use Rattle.plain.proofs.Visiting.{Calm, toward, Visiting, asked-done, request-visits, pass-by}
 
 -- a member is visited by two calls, any other arbiter by none
 visits-member : (st : State) (q s i more : ℕ) → member q i ≡ true
@@ -78,7 +78,7 @@ module _ (st : State) (s p h : ℕ) (load : ℕ → ℕ) (calm : Calm st s load)
   end : Visiting next (st .phase) s p h (st .n) load
   unfolding next requested
   end =
-      rw (collects-first st (st .n) s p h (st .table), request-done st s p h load calm exists number units)
+      rw (collects-first st (st .n) s p h (st .table), asked-done st s p h load calm exists number units)
       (all-visited s p h load (st .phase) (st .n) 0 (requested st s p h) (request-visits st s p h load calm exists number units) (omega arith) exists number (λ j l. room j))
 
   same : Same-table st next

@@ -2,74 +2,20 @@
 -- Assumes nothing.
 use mathlib.Core.List.{List}
 use Prim.Native.Nat.{ℕ}
-use Rattle.lists.specs.At.{at, at2}
 use Rattle.plain.specs.Answer.{Answer}
 use Rattle.plain.specs.State.{State}
+use Rattle.plain.specs.Updates.{withArbiter, withGranted, withLine}
 use Rattle.plain.specs.declared.Entry.{Entry}
 use Rattle.plain.specs.declared.Message.{Message}
 use Rattle.plain.specs.declared.Phase.{Phase}
 
--- ---- a state, but with something else in one place
-
-abbrev pub with-phase : ℕ → Phase → State → State
-with-phase s p st =
-    record {
-      n = st .n;
-      stock = st .stock;
-      table = st .table;
-      phase = at (st .phase) s p;
-      arbiter = st .arbiter;
-      up = st .up;
-      down = st .down;
-    }
+-- ---- a state, but with another line, or other units granted to station s, at arbiter j
 
 abbrev pub with-line : ℕ → List Entry → State → State
-with-line j line st =
-    record {
-      n = st .n;
-      stock = st .stock;
-      table = st .table;
-      phase = st .phase;
-      arbiter = at (st .arbiter) j (record { granted = st .arbiter j .granted; line = line });
-      up = st .up;
-      down = st .down;
-    }
+with-line j line st = withArbiter j (withLine line (st .arbiter j)) st
 
 abbrev pub with-grant : ℕ → ℕ → ℕ → State → State
-with-grant j s h st =
-    record {
-      n = st .n;
-      stock = st .stock;
-      table = st .table;
-      phase = st .phase;
-      arbiter = at (st .arbiter) j (record { granted = at (st .arbiter j .granted) s h; line = st .arbiter j .line });
-      up = st .up;
-      down = st .down;
-    }
-
-abbrev pub with-up : ℕ → ℕ → List Message → State → State
-with-up s j lane st =
-    record {
-      n = st .n;
-      stock = st .stock;
-      table = st .table;
-      phase = st .phase;
-      arbiter = st .arbiter;
-      up = at2 (st .up) s j lane;
-      down = st .down;
-    }
-
-abbrev pub with-down : ℕ → ℕ → List Message → State → State
-with-down s j lane st =
-    record {
-      n = st .n;
-      stock = st .stock;
-      table = st .table;
-      phase = st .phase;
-      arbiter = st .arbiter;
-      up = st .up;
-      down = at2 (st .down) s j lane;
-    }
+with-grant j s h st = withArbiter j (withGranted s h (st .arbiter j)) st
 
 -- ---- what is shown
 

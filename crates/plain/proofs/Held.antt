@@ -15,14 +15,16 @@ use Rattle.lists.proofs.Totals.{total-same, total-at, total-none}
 use Rattle.stations.specs.Sets.{places, lowestFrom}
 use Rattle.quorum.specs.Family.{quorum}
 use Rattle.plain.specs.Answer.{Answer}
-use Rattle.plain.specs.Down.{Taken, onward, taken, takenAt, enters, phaseThen, receivedAs, received}
-use Rattle.plain.specs.Release.{released, held}
+use Rattle.plain.specs.Down.{Taken, onward, taken, takenAt, enters, phaseThen, receivedAs}
+use Rattle.plain.specs.Release.{givenBack, held}
 use Rattle.plain.specs.Request.{lowest, requested}
 use Rattle.plain.specs.Run.{Call, call, run, after, entered, left, Difference}
 use Rattle.plain.specs.State.{State, fresh}
-use Rattle.plain.specs.Up.{delivered}
+use Rattle.plain.specs.Up.{deliveredOf}
+use Rattle.plain.specs.declared.Message.{Message}
 use Rattle.plain.specs.declared.Phase.{Phase}
 use Rattle.plain.specs.declared.Phase.the-variants.{Idle, Collecting, Holding}
+use Rattle.plain.proofs.Approaching.{made-as}
 use Rattle.plain.proofs.Calls.{each-call}
 
 -- the units of those of n stations that hold
@@ -47,7 +49,7 @@ abbrev Balanced : State → Answer → Type 0
 Balanced st a = a .entered + heldBy (st .phase) (st .n) ≡ a .left + heldBy (a .state .phase) (a .state .n)
 
 -- a GRANT: only the station that holds now has entered its units
-grant-balance : (st : State) (s j : ℕ) → s < st .n → heldBy (phaseThen st s (takenAt st s j)) (st .n) ≡ enters (takenAt st s j) + heldBy (st .phase) (st .n)
+grant-balance : (st : State) (s j : ℕ) → s < st .n → heldBy (phaseThen st s (taken (st .table) j (st .phase s))) (st .n) ≡ enters (taken (st .table) j (st .phase s)) + heldBy (st .phase) (st .n)
 unfolding taken onward
 grant-balance st s j l = go (st .phase s) refl
   where
@@ -66,21 +68,25 @@ grant-balance st s j l = go (st .phase s) refl
         asked true false x = omega (arith, none, held-at (st .phase) s (st .n) (Holding q h) l)
         asked false b x = omega arith
 
+message-balance : (st : State) (s j : ℕ) (m : Message) → s < st .n → heldBy (phaseThen st s (takenAt st s j m)) (st .n) ≡ enters (takenAt st s j m) + heldBy (st .phase) (st .n)
+message-balance st s j m l =
+    made-as (λ t. heldBy (phaseThen st s t) (st .n) ≡ enters t + heldBy (st .phase) (st .n)) (st .table) j (st .phase s) (omega arith) (grant-balance st s j l) m
+
 pub call-balance : (st : State) (c : Call) → call st c .entered + heldBy (st .phase) (st .n) ≡ call st c .left + heldBy (call st c .state .phase) (call st c .state .n)
-unfolding requested delivered received receivedAs released
+unfolding requested deliveredOf receivedAs givenBack
 call-balance st c =
     each-call (Balanced st) st
     (record {
       is-refused = λ r. refl;
-      by-request = λ s q h r.
+      by-request = λ s q h r room.
           let none : held (st .phase s) ≡ 0 = rw (r .idle) in
           omega (arith, none, held-at (st .phase) s (st .n) (Collecting q h (lowest st q)) (r .station));
-      by-up = λ s j d. rw (d .taken) refl;
-      by-down = λ s j d. rw (d .taken) (omega (arith, grant-balance st s j (d .station)));
-      by-release = λ s r.
+      by-up = λ s j m rest d room. refl;
+      by-down = λ s j m rest d room. omega (arith, message-balance st s j m (d .station));
+      by-release = λ s q h r room.
           let sum = held-at (st .phase) s (st .n) Idle (r .station) in
-          let mine : held (st .phase s) ≡ r .units = rw (r .holding) in
-          rw (r .holding) (omega arith);
+          let mine : held (st .phase s) ≡ h = rw (r .holding) in
+          omega arith;
     })
     c
 

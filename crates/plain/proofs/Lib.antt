@@ -5,6 +5,7 @@ pub mod Arriving
 pub mod Approaching
 pub mod Releasing
 pub mod Range
+pub mod Answered
 pub mod Passed
 pub mod Calls
 pub mod CallBounds

@@ -30,10 +30,10 @@ pub sends-request : {w : List ℕ} {g h : ℕ} {up down : List Message} → Pair
 sends-request Pair.clear = Pair.asked
 sends-request Pair.gave-back = Pair.asked-again
 
--- it takes a GRANT: it was waiting, and has now what it waited for
+-- it takes a message, which is a GRANT: it was waiting, and has now what it waited for
 pub takes-grant : {p : Part} {w : List ℕ} {g : ℕ} {up down : List Message} {m : Message} → Pair p up w g (m ∷ down)
-    → (h : ℕ) × (p ≡ Part.waits h) × Pair (Part.has h) up w g down
-takes-grant (Pair.granted {h}) = (h, refl, Pair.keeps)
+    → (m ≡ Grant) × (h : ℕ) × (p ≡ Part.waits h) × Pair (Part.has h) up w g down
+takes-grant (Pair.granted {h}) = (refl, h, refl, Pair.keeps)
 
 -- it sends RELEASE
 pub sends-release : {w : List ℕ} {g h : ℕ} {up down : List Message} → Pair (Part.has h) up w g down → Pair Part.nothing (sent up Release) w g down

@@ -1,146 +1,160 @@
--- What it means that a call is not refused.
+-- Each call by its tests: what it has passed when it is done, and what it answers otherwise.
 -- Assumes nothing.
-use mathlib.Core.Bool.{Bool, true, false, not, _||_}
+use mathlib.Core.Bool.{Bool, true, false, not}
 use mathlib.Core.List.{List, [], _∷_}
-use mathlib.Core.Logic.{by-cases}
-use mathlib.Core.Path.{_≡_, refl}
-use Prim.Native.Nat.{ℕ, _<_}
-use native.Mathlib.Decide.{ℕ-discrete}
-use native.Mathlib.Omega.{arith}
-use lib.Dec.{leb}
-use lib.ListN.{length}
-use borrow.Author.Tests.{eq-eqb, ne-eqb, leb-false, lt-leb, not-false}
-use Rattle.lists.specs.Search.{someBelow}
-use Rattle.lists.proofs.Tests.{otherwise, clash, or-none}
-use Rattle.quorum.specs.Family.{quorum as quorumOf}
-use Rattle.quorum.specs.Limits.{upTo}
-use Rattle.plain.specs.Answer.{Answer, refused, answered}
-use Rattle.plain.specs.Delivery.{laneRefusal, deliveryRefusal}
+use mathlib.Core.Path.{_≡_, refl, _∙_}
+use Prim.Native.Nat.{ℕ}
+use lib.Dec.{leb, ltb}
+use lib.ListN.{length, take}
+use borrow.Author.Tests.{leb-false, lt-leb, not-false}
+use Rattle.lists.proofs.Broken.{Kept, kept-both, passes-kept, numberAt, BrokenAt}
+use Rattle.lists.proofs.Tests.{clash, or-none}
+use Rattle.plain.specs.Answer.{Answer, refused, done, answered}
+use Rattle.plain.specs.Delivery.{deliveryTests, deliveryRefusal}
+use Rattle.plain.specs.Down.{enters, takenAt, downPassesOf, downTests, receivedAs, received, entering, down}
+use Rattle.plain.specs.Inner.Passed.{Requests, Delivers, Releases}
 use Rattle.plain.specs.InRange.{inRange}
-use Rattle.plain.specs.Lanes.{upPlaces, passes, sent}
-use Rattle.plain.specs.Release.{releasePasses, holderRefusal, releaseRefusal}
-use Rattle.plain.specs.Request.{isIdle, lowest, requestRefusal}
+use Rattle.plain.specs.Lanes.{isEmpty, oldest, noPlace}
+use Rattle.plain.specs.Release.{isHolding, somePasses, backPasses, releaseTests, releaseRefusal, givenBack, released, held, release}
+use Rattle.plain.specs.Request.{isIdle, requestPasses, requestTests, requestRefusal, requested, request}
 use Rattle.plain.specs.State.{State}
+use Rattle.plain.specs.Up.{upPasses, upTests, deliveredOf, delivered, up}
 use Rattle.plain.specs.declared.Message.{Message}
-use Rattle.plain.specs.declared.Message.the-variants.{Request}
 use Rattle.plain.specs.declared.Phase.{Phase}
 use Rattle.plain.specs.declared.Phase.the-variants.{Idle, Collecting, Holding}
+use Rattle.plain.proofs.Answered.{answered-done, answered-refused}
 
--- an answer says that the call was done, or that it was refused and all is as it was
-pub answered-as : (P : Answer → Type 0) (st : State) (r e l : ℕ) (next : State)
-    → (r ≡ 0 → P (record { refusal = 0; entered = e; left = l; state = next })) → P (refused st r) → P (answered st r e l next)
-unfolding answered
-answered-as P st r e l next done not-done =
-    by-cases (ℕ-discrete r 0) (λ (z : r ≡ 0). rw (eq-eqb r 0 z) (done z)) (λ (d : r ≡ 0 → ⊥). rw (ne-eqb r 0 d) not-done)
-
--- a call that is not refused, done
-pub answered-done : (st : State) (r e l : ℕ) (next : State) → r ≡ 0 → answered st r e l next ≡ record { refusal = 0; entered = e; left = l; state = next }
-unfolding answered
-answered-done st r e l next z = rw z
+-- what is true is no broken test
+pub range-kept : {b : Bool} → b ≡ true → not b ≡ false
+range-kept e = rw e
 
 -- ---- Request
 
-pub record Requestable (st : State) (s q h : ℕ) : Type 0 where
-  pub range : inRange st ≡ true
-  pub station : s < st .n
-  pub quorum : q < length (st .table)
-  pub units : upTo (st .stock) h ≡ true
-  pub idle : st .phase s ≡ Idle
-  pub room : passes upPlaces (sent (st .up s (lowest st q)) (Request h)) ≡ false
-
-is-idle : (p : Phase) → not (isIdle p) ≡ false → p ≡ Idle
+pub is-idle : (p : Phase) → not (isIdle p) ≡ false → p ≡ Idle
 is-idle Idle e = refl
 is-idle (Collecting q h m) e = absurd (clash refl e)
 is-idle (Holding q h) e = absurd (clash refl e)
 
-pub requestable : (st : State) (s q h : ℕ) → requestRefusal st s q h ≡ 0 → Requestable st s q h
-unfolding requestRefusal
-requestable st s q h e =
-    let (a, e₁) = otherwise (not (inRange st)) 19 _ (λ z. omega arith) e in
-    let (b, e₂) = otherwise (leb (st .n) s) 8 _ (λ z. omega arith) e₁ in
-    let (c, e₃) = otherwise (leb (length (st .table)) q) 9 _ (λ z. omega arith) e₂ in
-    let (d, e₄) = otherwise (not (upTo (st .stock) h)) 10 _ (λ z. omega arith) e₃ in
-    let (f, e₅) = otherwise (not (isIdle (st .phase s))) 11 _ (λ z. omega arith) e₄ in
-    let (g, end) = otherwise (passes upPlaces (sent (st .up s (lowest st q)) (Request h))) 14 0 (λ z. omega arith) e₅ in
-    record {
-      range = not-false (inRange st) a;
-      station = leb-false (st .n) s b;
-      quorum = leb-false (length (st .table)) q c;
-      units = not-false (upTo (st .stock) h) d;
-      idle = is-idle (st .phase s) f;
-      room = g;
-    }
+module _ (st : State) (s q h : ℕ) where
+  pub requests : requestRefusal st s q h ≡ 0 → Requests st s q h × (requestPasses st s q h ≡ false)
+  unfolding requestRefusal
+  requests e =
+      let (a, (b, (c, (d, (f, (room, end)))))) = passes-kept (requestTests st s q h) refl e in (
+        record {
+          range = not-false (inRange st) a;
+          station = leb-false (st .n) s b;
+          quorum = leb-false (length (st .table)) q c;
+          units = not-false _ d;
+          idle = is-idle (st .phase s) f;
+        },
+        room,
+      )
 
-pub request-passes : (st : State) (s q h : ℕ) → Requestable st s q h → requestRefusal st s q h ≡ 0
-unfolding requestRefusal
-request-passes st s q h r =
-    rw (r .range, lt-leb (st .n) s (r .station), lt-leb (length (st .table)) q (r .quorum), r .units, r .idle, r .room)
+  -- the test at place i is broken, and none before it
+  pub request-refused : (i : ℕ) → BrokenAt i (requestTests st s q h) → ltb 0 (numberAt i (requestTests st s q h)) ≡ true → request st s q h ≡ refused st (numberAt i (requestTests st s q h))
+  unfolding request requestRefusal
+  request-refused i b n = answered-refused st 0 0 (requested st s q h) i (requestTests st s q h) b n
 
--- ---- Up and Down: the station and arbiter exist, and the lane has a message
+  module _ (r : Requests st s q h) where
+    pub request-kept : Kept (take 5 (requestTests st s q h))
+    request-kept = (range-kept (r .range), (lt-leb (st .n) s (r .station), (lt-leb (length (st .table)) q (r .quorum), (range-kept (r .units), (rw (r .idle), tt)))))
 
-pub record Delivers (st : State) (s j : ℕ) (lane : List Message) (full : Message → Bool) : Type 0 where
-  pub range : inRange st ≡ true
-  pub station : s < st .n
-  pub arbiter : j < st .n
-  pub message : Message
-  pub rest : List Message
-  pub taken : lane ≡ message ∷ rest
-  pub room : full message ≡ false
+    pub request-done : requestPasses st s q h ≡ false → request st s q h ≡ done 0 0 (requested st s q h)
+    unfolding request requestRefusal
+    request-done room = answered-done st 0 0 (requested st s q h) (requestTests st s q h) (kept-both 5 (requestTests st s q h) request-kept (room, tt))
 
-lane-passed : (lane : List Message) (full : Message → Bool) → laneRefusal lane full ≡ 0 → (m : Message) × (rest : List Message) × (lane ≡ m ∷ rest) × (full m ≡ false)
-unfolding laneRefusal
-lane-passed [] full e = absurd (omega arith)
-lane-passed (m ∷ rest) full e = (m, rest, refl, otherwise (full m) 14 0 (λ z. omega arith) e .0)
+-- ---- Up and Down: the same tests, each with its own for the room
 
-pub delivers : (st : State) (s j : ℕ) (lane : List Message) (full : Message → Bool) → deliveryRefusal st s j lane full ≡ 0 → Delivers st s j lane full
-unfolding deliveryRefusal
-delivers st s j lane full e =
-    let (a, e₁) = otherwise (not (inRange st)) 19 _ (λ z. omega arith) e in
-    let (b, e₂) = otherwise (leb (st .n) s || leb (st .n) j) 8 _ (λ z. omega arith) e₁ in
-    let (c, d) = or-none (leb (st .n) s) (leb (st .n) j) b in
-    let (m, rest, taken, room) = lane-passed lane full e₂ in
-    record {
-      range = not-false (inRange st) a;
-      station = leb-false (st .n) s c;
-      arbiter = leb-false (st .n) j d;
-      message = m;
-      rest = rest;
-      taken = taken;
-      room = room;
-    }
+first-message : (lane : List Message) (full : Message → Bool) → isEmpty lane ≡ false → oldest full lane ≡ false → (m : Message) × (rest : List Message) × (lane ≡ m ∷ rest) × (full m ≡ false)
+first-message [] full e o = absurd (clash refl e)
+first-message (m ∷ rest) full e o = (m, rest, refl, o)
 
-pub delivery-passes : (st : State) (s j : ℕ) (lane : List Message) (full : Message → Bool) → Delivers st s j lane full → deliveryRefusal st s j lane full ≡ 0
-unfolding deliveryRefusal laneRefusal
-delivery-passes st s j lane full d =
-    rw (d .range, lt-leb (st .n) s (d .station), lt-leb (st .n) j (d .arbiter), d .taken, d .room)
+module _ (st : State) (s j : ℕ) (lane : List Message) (full : Message → Bool) where
+  pub delivers : deliveryRefusal st s j lane full ≡ 0 → (m : Message) × (rest : List Message) × Delivers st s j lane m rest × (full m ≡ false)
+  unfolding deliveryRefusal
+  delivers e =
+      let (a, (b, (c, (d, end)))) = passes-kept (deliveryTests st s j lane full) refl e in
+      let (x, y) = or-none (leb (st .n) s) (leb (st .n) j) b in
+      let (m, rest, taken, room) = first-message lane full c d in
+      (m, rest, record { range = not-false (inRange st) a; station = leb-false (st .n) s x; arbiter = leb-false (st .n) j y; taken = taken }, room)
+
+  module _ (entered left : ℕ) (next : State) where
+    -- what Up or Down answers
+    abbrev pub delivery : Answer
+    delivery = answered st (deliveryRefusal st s j lane full) entered left next
+
+    pub delivery-refused : (i : ℕ) → BrokenAt i (deliveryTests st s j lane full) → ltb 0 (numberAt i (deliveryTests st s j lane full)) ≡ true → delivery ≡ refused st (numberAt i (deliveryTests st s j lane full))
+    unfolding deliveryRefusal
+    delivery-refused i b n = answered-refused st entered left next i (deliveryTests st s j lane full) b n
+
+    module _ {m : Message} {rest : List Message} (d : Delivers st s j lane m rest) where
+      delivery-kept : Kept (take 3 (deliveryTests st s j lane full))
+      delivery-kept = (range-kept (d .range), (rw (lt-leb (st .n) s (d .station), lt-leb (st .n) j (d .arbiter)), (rw (d .taken), tt)))
+
+      pub delivery-full : full m ≡ true → delivery ≡ refused st noPlace
+      delivery-full f = delivery-refused 3 (delivery-kept, rw (d .taken) f) refl
+
+      pub delivery-done : full m ≡ false → delivery ≡ done entered left next
+      unfolding deliveryRefusal
+      delivery-done room = answered-done st entered left next (deliveryTests st s j lane full) (kept-both 3 (deliveryTests st s j lane full) delivery-kept (rw (d .taken) room, tt))
+
+-- what each makes of the message that it has taken
+module _ (st : State) (s j : ℕ) where
+  pub up-refused : (i : ℕ) → BrokenAt i (upTests st s j) → ltb 0 (numberAt i (upTests st s j)) ≡ true → up st s j ≡ refused st (numberAt i (upTests st s j))
+  unfolding up
+  up-refused i b n = delivery-refused st s j (st .up s j) (upPasses st s j) 0 0 (delivered st s j (st .up s j)) i b n
+
+  pub down-refused : (i : ℕ) → BrokenAt i (downTests st s j) → ltb 0 (numberAt i (downTests st s j)) ≡ true → down st s j ≡ refused st (numberAt i (downTests st s j))
+  unfolding down
+  down-refused i b n = delivery-refused st s j (st .down s j) (downPassesOf st s j) (entering st s j (st .down s j)) 0 (received st s j (st .down s j)) i b n
+
+  module _ {m : Message} {rest : List Message} where
+    pub up-full : Delivers st s j (st .up s j) m rest → upPasses st s j m ≡ true → up st s j ≡ refused st noPlace
+    unfolding up
+    up-full d f = delivery-full st s j (st .up s j) (upPasses st s j) 0 0 (delivered st s j (st .up s j)) d f
+
+    pub up-done : Delivers st s j (st .up s j) m rest → upPasses st s j m ≡ false → up st s j ≡ done 0 0 (deliveredOf st s j m rest)
+    unfolding up delivered
+    up-done d room = delivery-done st s j (st .up s j) (upPasses st s j) 0 0 (delivered st s j (st .up s j)) d room ∙ rw (d .taken)
+
+    pub down-full : Delivers st s j (st .down s j) m rest → downPassesOf st s j m ≡ true → down st s j ≡ refused st noPlace
+    unfolding down
+    down-full d f = delivery-full st s j (st .down s j) (downPassesOf st s j) (entering st s j (st .down s j)) 0 (received st s j (st .down s j)) d f
+
+    pub down-done : Delivers st s j (st .down s j) m rest → downPassesOf st s j m ≡ false
+        → down st s j ≡ done (enters (takenAt st s j m)) 0 (receivedAs st s j rest (takenAt st s j m))
+    unfolding down received entering
+    down-done d room =
+        delivery-done st s j (st .down s j) (downPassesOf st s j) (entering st s j (st .down s j)) 0 (received st s j (st .down s j)) d room ∙ rw (d .taken)
 
 -- ---- Release
 
-pub record Releases (st : State) (s : ℕ) : Type 0 where
-  pub range : inRange st ≡ true
-  pub station : s < st .n
-  pub quorum : ℕ
-  pub units : ℕ
-  pub holding : st .phase s ≡ Holding quorum units
-  pub room : someBelow (λ j. releasePasses (quorumOf (st .table) quorum) (st .up s) j) (st .n) ≡ false
+is-holding : (st : State) (s : ℕ) (p : Phase) → not (isHolding p) ≡ false → backPasses st s p ≡ false → (q h : ℕ) × (p ≡ Holding q h) × (somePasses st s q ≡ false)
+is-holding st s Idle e room = absurd (clash refl e)
+is-holding st s (Collecting q h m) e room = absurd (clash refl e)
+is-holding st s (Holding q h) e room = (q, h, refl, room)
 
-holder-passed : (st : State) (s : ℕ) (p : Phase) → holderRefusal st s p ≡ 0
-    → (q h : ℕ) × (p ≡ Holding q h) × (someBelow (λ j. releasePasses (quorumOf (st .table) q) (st .up s) j) (st .n) ≡ false)
-holder-passed st s Idle e = absurd (omega arith)
-holder-passed st s (Collecting q h m) e = absurd (omega arith)
-holder-passed st s (Holding q h) e = (q, h, refl, otherwise (someBelow (λ j. releasePasses (quorumOf (st .table) q) (st .up s) j) (st .n)) 14 0 (λ z. omega arith) e .0)
+module _ (st : State) (s : ℕ) where
+  pub releases : releaseRefusal st s ≡ 0 → (q h : ℕ) × Releases st s q h × (somePasses st s q ≡ false)
+  unfolding releaseRefusal
+  releases e =
+      let (a, (b, (c, (d, end)))) = passes-kept (releaseTests st s) refl e in
+      let (q, h, holding, room) = is-holding st s (st .phase s) c d in
+      (q, h, record { range = not-false (inRange st) a; station = leb-false (st .n) s b; holding = holding }, room)
 
-pub releases : (st : State) (s : ℕ) → releaseRefusal st s ≡ 0 → Releases st s
-unfolding releaseRefusal
-releases st s e =
-    let (a, e₁) = otherwise (not (inRange st)) 19 _ (λ z. omega arith) e in
-    let (b, e₂) = otherwise (leb (st .n) s) 8 _ (λ z. omega arith) e₁ in
-    let (q, h, holding, room) = holder-passed st s (st .phase s) e₂ in
-    record {
-      range = not-false (inRange st) a;
-      station = leb-false (st .n) s b;
-      quorum = q;
-      units = h;
-      holding = holding;
-      room = room;
-    }
+  pub release-refused : (i : ℕ) → BrokenAt i (releaseTests st s) → ltb 0 (numberAt i (releaseTests st s)) ≡ true → release st s ≡ refused st (numberAt i (releaseTests st s))
+  unfolding release releaseRefusal
+  release-refused i b n = answered-refused st 0 (held (st .phase s)) (released st s (st .phase s)) i (releaseTests st s) b n
+
+  module _ {q h : ℕ} (r : Releases st s q h) where
+    release-kept : Kept (take 3 (releaseTests st s))
+    release-kept = (range-kept (r .range), (lt-leb (st .n) s (r .station), (rw (r .holding), tt)))
+
+    pub release-full : somePasses st s q ≡ true → release st s ≡ refused st noPlace
+    release-full full = release-refused 3 (release-kept, rw (r .holding) full) refl
+
+    pub release-done : somePasses st s q ≡ false → release st s ≡ done 0 h (givenBack st s q)
+    unfolding release releaseRefusal released
+    release-done room =
+        answered-done st 0 (held (st .phase s)) (released st s (st .phase s)) (releaseTests st s) (kept-both 3 (releaseTests st s) release-kept (rw (r .holding) room, tt))
+        ∙ rw (r .holding)

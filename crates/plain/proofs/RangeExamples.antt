@@ -10,10 +10,11 @@ use Rattle.quorum.specs.Limits.{brokenLimit}
 use Rattle.plain.specs.InRange.{goesUp, goesDown, phaseIn, entryIn, arbiterIn, inRange}
 use Rattle.plain.specs.Lanes.{keeps}
 use Rattle.plain.specs.State.{State, fresh}
+use Rattle.plain.specs.Updates.{withPhase, withUp, withDown}
 use Rattle.plain.specs.declared.Entry.{Entry}
 use Rattle.plain.specs.declared.Message.the-variants.{Request, Release, Grant}
 use Rattle.plain.specs.declared.Phase.the-variants.{Collecting, Holding}
-use Rattle.plain.proofs.HandMade.{with-phase, with-line, with-grant, with-up, with-down}
+use Rattle.plain.proofs.HandMade.{with-line, with-grant}
 
 -- two stations, a stock of 3; the only quorum is both
 abbrev two : State
@@ -27,14 +28,14 @@ pub on-the-limit :
     _≡_ {A = List Bool}
     (inRange (fresh 1 1 (1 ∷ []))
     ∷ inRange (fresh 12 200 (replicate 64 4095))
-    ∷ inRange (with-up 1 1 (Request 3 ∷ (Release ∷ (Request 1 ∷ (Release ∷ [])))) two)
-    ∷ inRange (with-down 1 1 (Grant ∷ (Grant ∷ [])) two)
-    ∷ inRange (with-phase 1 (Collecting 0 3 1) two)
-    ∷ inRange (with-phase 1 (Holding 0 3) two)
+    ∷ inRange (withUp 1 1 (Request 3 ∷ (Release ∷ (Request 1 ∷ (Release ∷ [])))) two)
+    ∷ inRange (withDown 1 1 (Grant ∷ (Grant ∷ [])) two)
+    ∷ inRange (withPhase 1 (Collecting 0 3 1) two)
+    ∷ inRange (withPhase 1 (Holding 0 3) two)
     ∷ inRange (with-grant 1 0 3 (with-grant 1 1 3 two))
     ∷ inRange (with-line 1 (replicate 12 (entry 1 3)) two)
     -- what belongs to no station is not tested
-    ∷ inRange (with-phase 2 (Holding 9 9) (with-line 2 (entry 9 9 ∷ []) (with-up 2 0 (Grant ∷ []) (with-up 0 2 (Grant ∷ []) (with-down 2 0 (Release ∷ []) (with-grant 0 2 9 two))))))
+    ∷ inRange (withPhase 2 (Holding 9 9) (with-line 2 (entry 9 9 ∷ []) (withUp 2 0 (Grant ∷ []) (withUp 0 2 (Grant ∷ []) (withDown 2 0 (Release ∷ []) (with-grant 0 2 9 two))))))
     ∷ [])
     (replicate 9 true)
 unfolding brokenLimit at fresh goesUp goesDown keeps phaseIn entryIn arbiterIn inRange
@@ -53,21 +54,21 @@ pub past-the-limit :
     ∷ inRange (fresh 1 1 (0 ∷ []))
     ∷ inRange (fresh 1 1 (2 ∷ []))
     -- lanes
-    ∷ inRange (with-up 1 1 (Release ∷ (Grant ∷ [])) two)
-    ∷ inRange (with-up 1 1 (Request 0 ∷ []) two)
-    ∷ inRange (with-up 1 1 (Request 4 ∷ []) two)
-    ∷ inRange (with-up 1 1 (replicate 5 Release) two)
-    ∷ inRange (with-down 1 1 (Grant ∷ (Release ∷ [])) two)
-    ∷ inRange (with-down 1 1 (Request 1 ∷ []) two)
-    ∷ inRange (with-down 1 1 (replicate 3 Grant) two)
+    ∷ inRange (withUp 1 1 (Release ∷ (Grant ∷ [])) two)
+    ∷ inRange (withUp 1 1 (Request 0 ∷ []) two)
+    ∷ inRange (withUp 1 1 (Request 4 ∷ []) two)
+    ∷ inRange (withUp 1 1 (replicate 5 Release) two)
+    ∷ inRange (withDown 1 1 (Grant ∷ (Release ∷ [])) two)
+    ∷ inRange (withDown 1 1 (Request 1 ∷ []) two)
+    ∷ inRange (withDown 1 1 (replicate 3 Grant) two)
     -- stations
-    ∷ inRange (with-phase 1 (Collecting 1 1 0) two)
-    ∷ inRange (with-phase 1 (Collecting 0 0 0) two)
-    ∷ inRange (with-phase 1 (Collecting 0 4 0) two)
-    ∷ inRange (with-phase 1 (Collecting 0 1 2) two)
-    ∷ inRange (with-phase 1 (Holding 1 1) two)
-    ∷ inRange (with-phase 1 (Holding 0 0) two)
-    ∷ inRange (with-phase 1 (Holding 0 4) two)
+    ∷ inRange (withPhase 1 (Collecting 1 1 0) two)
+    ∷ inRange (withPhase 1 (Collecting 0 0 0) two)
+    ∷ inRange (withPhase 1 (Collecting 0 4 0) two)
+    ∷ inRange (withPhase 1 (Collecting 0 1 2) two)
+    ∷ inRange (withPhase 1 (Holding 1 1) two)
+    ∷ inRange (withPhase 1 (Holding 0 0) two)
+    ∷ inRange (withPhase 1 (Holding 0 4) two)
     -- arbiters
     ∷ inRange (with-grant 1 0 4 two)
     ∷ inRange (with-line 1 (entry 2 1 ∷ []) two)

@@ -11,20 +11,21 @@ use Rattle.stations.specs.Sets.{lowestAmong, lowestFrom}
 use Rattle.quorum.specs.Limits.{brokenLimit}
 use Rattle.plain.specs.Answer.{answered}
 use Rattle.plain.specs.Arbiter.{arrived, fits, serve, unitsIn}
-use Rattle.plain.specs.Delivery.{laneRefusal, deliveryRefusal}
-use Rattle.plain.specs.Down.{onward, taken, receivedAs, received, down}
+use Rattle.plain.specs.Delivery.{deliveryRefusal}
+use Rattle.plain.specs.Down.{onward, taken, receivedAs, received, entering, down}
 use Rattle.plain.specs.InRange.{goesUp, goesDown, phaseIn, entryIn, arbiterIn, inRange}
 use Rattle.plain.specs.Lanes.{keeps}
-use Rattle.plain.specs.Release.{releasing, releaseRefusal, released, release}
+use Rattle.plain.specs.Release.{releasing, releaseRefusal, givenBack, released, release}
 use Rattle.plain.specs.Request.{requestRefusal, requested, request}
 use Rattle.plain.specs.Run.{Call, call, run}
 use Rattle.plain.specs.State.{State, fresh}
-use Rattle.plain.specs.Up.{granting, delivered, up}
+use Rattle.plain.specs.Up.{granting, deliveredOf, delivered, up}
+use Rattle.plain.specs.Updates.{withUp}
 use Rattle.plain.specs.declared.Entry.{Entry}
 use Rattle.plain.specs.declared.Message.{Message}
 use Rattle.plain.specs.declared.Message.the-variants.{Request, Release, Grant}
 use Rattle.plain.specs.declared.Phase.the-variants.{Idle}
-use Rattle.plain.proofs.HandMade.{with-line, with-grant, with-up, said, done, enters, leaves, refuses, Seen, seen}
+use Rattle.plain.proofs.HandMade.{with-line, with-grant, said, done, enters, leaves, refuses, Seen, seen}
 
 -- station 0 alone is the only quorum
 abbrev one-arbiter : List ℕ
@@ -52,7 +53,7 @@ pub strictly-from-the-first :
     ∷ Call.Down 2 0
     ∷ []))
     ≡ done ∷ done ∷ done ∷ done ∷ done ∷ done ∷ refuses 13 ∷ refuses 13 ∷ enters 2 ∷ leaves 2 ∷ done ∷ enters 2 ∷ enters 1 ∷ []
-unfolding brokenLimit member lowestAmong lowestFrom at total fresh answered arrived fits serve unitsIn onward taken receivedAs received down goesUp goesDown keeps phaseIn entryIn arbiterIn inRange releasing releaseRefusal released release requestRefusal requested request call run granting laneRefusal deliveryRefusal delivered up
+unfolding brokenLimit member lowestAmong lowestFrom at total fresh answered arrived fits serve unitsIn onward taken receivedAs received entering down goesUp goesDown keeps phaseIn entryIn arbiterIn inRange releasing releaseRefusal givenBack released release requestRefusal requested request call run granting deliveryRefusal deliveredOf delivered up
 strictly-from-the-first = refl
 
 -- Of two that wait for the only unit the older is granted first.
@@ -71,12 +72,12 @@ pub oldest-first :
     ∷ Call.Down 2 0
     ∷ []))
     ≡ done ∷ done ∷ done ∷ done ∷ done ∷ done ∷ enters 1 ∷ leaves 1 ∷ done ∷ refuses 13 ∷ enters 1 ∷ []
-unfolding brokenLimit member lowestAmong lowestFrom at total fresh answered arrived fits serve unitsIn onward taken receivedAs received down goesUp goesDown keeps phaseIn entryIn arbiterIn inRange releasing releaseRefusal released release requestRefusal requested request call run granting laneRefusal deliveryRefusal delivered up
+unfolding brokenLimit member lowestAmong lowestFrom at total fresh answered arrived fits serve unitsIn onward taken receivedAs received entering down goesUp goesDown keeps phaseIn entryIn arbiterIn inRange releasing releaseRefusal givenBack released release requestRefusal requested request call run granting deliveryRefusal deliveredOf delivered up
 oldest-first = refl
 
 -- Up on states made by hand, one station, one arbiter
 abbrev arbiter-with : ℕ → ℕ → List Entry → List Message → State
-arbiter-with k g line lane = with-up 0 0 lane (with-line 0 line (with-grant 0 0 g (fresh 1 k one-arbiter)))
+arbiter-with k g line lane = withUp 0 0 lane (with-line 0 line (with-grant 0 0 g (fresh 1 k one-arbiter)))
 
 pub by-hand :
     _≡_ {A = List Seen}
@@ -103,5 +104,5 @@ pub by-hand :
     ∷ record { answer = refuses 14; phase = Idle; granted = 0; line = replicate 12 (entry 0 200); up = Request 1 ∷ []; down = [] }
     ∷ record { answer = done; phase = Idle; granted = 200; line = replicate 11 (entry 0 200); up = []; down = Grant ∷ [] }
     ∷ [])
-unfolding brokenLimit member lowestAmong lowestFrom at total fresh answered arrived fits serve unitsIn goesUp goesDown keeps phaseIn entryIn arbiterIn inRange granting laneRefusal deliveryRefusal delivered up
+unfolding brokenLimit member lowestAmong lowestFrom at total fresh answered arrived fits serve unitsIn goesUp goesDown keeps phaseIn entryIn arbiterIn inRange granting deliveryRefusal deliveredOf delivered up
 by-hand = refl

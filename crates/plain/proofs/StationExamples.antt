@@ -10,18 +10,19 @@ use Rattle.stations.specs.Sets.{lowestAmong, lowestFrom}
 use Rattle.quorum.specs.Limits.{brokenLimit}
 use Rattle.plain.specs.Answer.{answered}
 use Rattle.plain.specs.Arbiter.{arrived, fits, serve, unitsIn}
-use Rattle.plain.specs.Delivery.{laneRefusal, deliveryRefusal}
-use Rattle.plain.specs.Down.{onward, taken, receivedAs, received, down}
+use Rattle.plain.specs.Delivery.{deliveryRefusal}
+use Rattle.plain.specs.Down.{onward, taken, receivedAs, received, entering, down}
 use Rattle.plain.specs.InRange.{goesUp, goesDown, phaseIn, entryIn, arbiterIn, inRange}
 use Rattle.plain.specs.Lanes.{keeps}
-use Rattle.plain.specs.Release.{releasing, releaseRefusal, released, release}
+use Rattle.plain.specs.Release.{releasing, releaseRefusal, givenBack, released, release}
 use Rattle.plain.specs.Request.{requestRefusal, requested, request}
 use Rattle.plain.specs.State.{State, fresh}
-use Rattle.plain.specs.Up.{granting, delivered, up}
+use Rattle.plain.specs.Up.{granting, deliveredOf, delivered, up}
+use Rattle.plain.specs.Updates.{withPhase, withUp, withDown}
 use Rattle.plain.specs.declared.Message.the-variants.{Request, Release, Grant}
 use Rattle.plain.specs.declared.Phase.{Phase}
 use Rattle.plain.specs.declared.Phase.the-variants.{Idle, Collecting, Holding}
-use Rattle.plain.proofs.HandMade.{with-phase, with-up, with-down, done, enters, leaves, refuses, Seen, seen}
+use Rattle.plain.proofs.HandMade.{done, enters, leaves, refuses, Seen, seen}
 
 -- three stations, one unit; the quorums are {0, 2} and {1}
 abbrev two-quorums : State
@@ -29,7 +30,7 @@ two-quorums = fresh 3 1 (5 ∷ (2 ∷ []))
 
 -- station 1 in this phase, with a GRANT from arbiter j, takes it
 abbrev takes : Phase → ℕ → State
-takes p j = with-down 1 j (Grant ∷ []) (with-phase 1 p two-quorums)
+takes p j = withDown 1 j (Grant ∷ []) (withPhase 1 p two-quorums)
 
 -- seen at the arbiter x: a GRANT from j is taken
 abbrev taken-from : Phase → ℕ → ℕ → Seen
@@ -51,9 +52,9 @@ pub grants-taken :
     ∷ taken-from (Collecting 0 1 2) 0 2
     ∷ taken-from (Holding 0 1) 0 2
     -- only the oldest of two is taken
-    ∷ seen 1 0 (down (with-down 1 0 (Grant ∷ (Grant ∷ [])) two-quorums) 1 0)
+    ∷ seen 1 0 (down (withDown 1 0 (Grant ∷ (Grant ∷ [])) two-quorums) 1 0)
     -- no place for REQUEST: nothing changes
-    ∷ seen 1 2 (down (with-up 1 2 (Release ∷ (Release ∷ (Release ∷ (Release ∷ [])))) (takes (Collecting 0 1 0) 0)) 1 0)
+    ∷ seen 1 2 (down (withUp 1 2 (Release ∷ (Release ∷ (Release ∷ (Release ∷ [])))) (takes (Collecting 0 1 0) 0)) 1 0)
     ∷ [])
     (record { answer = done; phase = Collecting 0 1 2; granted = 0; line = []; up = Request 1 ∷ []; down = [] }
     ∷ record { answer = enters 1; phase = Holding 0 1; granted = 0; line = []; up = []; down = [] }
@@ -66,12 +67,12 @@ pub grants-taken :
     ∷ record { answer = done; phase = Idle; granted = 0; line = []; up = []; down = Grant ∷ [] }
     ∷ record { answer = refuses 14; phase = Collecting 0 1 0; granted = 0; line = []; up = Release ∷ (Release ∷ (Release ∷ (Release ∷ []))); down = [] }
     ∷ [])
-unfolding brokenLimit member lowestAmong lowestFrom at total fresh answered arrived fits serve unitsIn onward taken receivedAs received down goesUp goesDown keeps phaseIn entryIn arbiterIn inRange releasing releaseRefusal released release requestRefusal requested request granting laneRefusal deliveryRefusal delivered up
+unfolding brokenLimit member lowestAmong lowestFrom at total fresh answered arrived fits serve unitsIn onward taken receivedAs received entering down goesUp goesDown keeps phaseIn entryIn arbiterIn inRange releasing releaseRefusal givenBack released release requestRefusal requested request granting deliveryRefusal deliveredOf delivered up
 grants-taken = refl
 
 -- station 1 holds by the quorum {0, 2} and gives back
 abbrev holds : State
-holds = with-phase 1 (Holding 0 1) two-quorums
+holds = withPhase 1 (Holding 0 1) two-quorums
 
 pub gives-back :
     _≡_ {A = List Seen}
@@ -80,11 +81,11 @@ pub gives-back :
     ∷ seen 1 1 (release holds 1)
     ∷ seen 1 2 (release holds 1)
     -- behind what is in the lane already
-    ∷ seen 1 2 (release (with-up 1 2 (Request 1 ∷ []) holds) 1)
+    ∷ seen 1 2 (release (withUp 1 2 (Request 1 ∷ []) holds) 1)
     -- one member's lane is full: no member is sent a RELEASE
-    ∷ seen 1 0 (release (with-up 1 2 (Release ∷ (Release ∷ (Release ∷ (Release ∷ [])))) holds) 1)
+    ∷ seen 1 0 (release (withUp 1 2 (Release ∷ (Release ∷ (Release ∷ (Release ∷ [])))) holds) 1)
     -- the full lane to an arbiter that is no member does not matter
-    ∷ seen 1 0 (release (with-up 1 1 (Release ∷ (Release ∷ (Release ∷ (Release ∷ [])))) holds) 1)
+    ∷ seen 1 0 (release (withUp 1 1 (Release ∷ (Release ∷ (Release ∷ (Release ∷ [])))) holds) 1)
     ∷ [])
     (record { answer = leaves 1; phase = Idle; granted = 0; line = []; up = Release ∷ []; down = [] }
     ∷ record { answer = leaves 1; phase = Idle; granted = 0; line = []; up = []; down = [] }
@@ -93,5 +94,5 @@ pub gives-back :
     ∷ record { answer = refuses 14; phase = Holding 0 1; granted = 0; line = []; up = []; down = [] }
     ∷ record { answer = leaves 1; phase = Idle; granted = 0; line = []; up = Release ∷ []; down = [] }
     ∷ [])
-unfolding brokenLimit member lowestAmong lowestFrom at total fresh answered arrived fits serve unitsIn onward taken receivedAs received down goesUp goesDown keeps phaseIn entryIn arbiterIn inRange releasing releaseRefusal released release requestRefusal requested request granting laneRefusal deliveryRefusal delivered up
+unfolding brokenLimit member lowestAmong lowestFrom at total fresh answered arrived fits serve unitsIn onward taken receivedAs received entering down goesUp goesDown keeps phaseIn entryIn arbiterIn inRange releasing releaseRefusal givenBack released release requestRefusal requested request granting deliveryRefusal deliveredOf delivered up
 gives-back = refl

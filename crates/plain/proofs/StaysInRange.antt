@@ -20,22 +20,23 @@ use Rattle.stations.specs.Sets.{lowestFrom}
 use Rattle.quorum.specs.Family.{quorum}
 use Rattle.quorum.specs.Limits.{brokenLimit, upTo}
 use Rattle.plain.specs.Arbiter.{unitsIn, grantsTo}
-use Rattle.plain.specs.Down.{Taken, onward, taken, takenAt, downPasses, receivedAs, received}
+use Rattle.plain.specs.Down.{Taken, onward, taken, madeOf, takenAt, downPasses, downPassesOf, receivedAs}
+use Rattle.plain.specs.Inner.Passed.{Requests, Delivers, Releases}
 use Rattle.plain.specs.InRange.{goesUp, upLane, downLane, phaseIn, arbiterIn, inRange, goesDown}
 use Rattle.plain.specs.Lanes.{downPlaces, linePlaces, passes, sent, upPlaces, keeps}
-use Rattle.plain.specs.Release.{releasing, releasePasses, released}
-use Rattle.plain.specs.Request.{lowest, requested}
+use Rattle.plain.specs.Release.{releasing, releasePasses, somePasses, givenBack}
+use Rattle.plain.specs.Request.{lowest, requestPasses, requested}
 use Rattle.plain.specs.Run.{Call, call, after}
 use Rattle.plain.specs.State.{State, fresh}
-use Rattle.plain.specs.Up.{arrivedAt, servedAt, granting, upPasses, delivered}
+use Rattle.plain.specs.Up.{arrivedAt, servedAt, granting, upPasses, deliveredOf}
+use Rattle.plain.specs.declared.Message.{Message}
 use Rattle.plain.specs.declared.Message.the-variants.{Request, Release}
 use Rattle.plain.specs.declared.Phase.{Phase}
 use Rattle.plain.specs.declared.Phase.the-variants.{Idle, Collecting, Holding}
-use Rattle.plain.proofs.Approaching.{onward-as, first-member}
+use Rattle.plain.proofs.Approaching.{made-as, onward-as, first-member}
 use Rattle.plain.proofs.ArbitersInRange.{arbiter-facts, facts-arbiter, arrived-in, served-in}
 use Rattle.plain.proofs.Calls.{each-call}
 use Rattle.plain.proofs.LanesInRange.{keeps-more, keeps-rest, keeps-first, grants-down}
-use Rattle.plain.proofs.Passed.{Requestable, Delivers, Releases}
 use Rattle.plain.proofs.Range.{Ranged, ranged, in-range}
 use Rattle.plain.proofs.Releasing.{releasing-member, releasing-other}
 use Rattle.plain.proofs.Runs.{after-keeps}
@@ -53,9 +54,9 @@ fresh-ranged n k table kept =
 
 -- ---- Request
 
-request-ranged : (st : State) (s q h : ℕ) → Requestable st s q h → Ranged (requested st s q h)
+request-ranged : (st : State) (s q h : ℕ) → Requests st s q h → requestPasses st s q h ≡ false → Ranged (requested st s q h)
 unfolding requested phaseIn goesUp
-request-ranged st s q h r =
+request-ranged st s q h r room =
     let g = ranged st (r .range) in
     let low = first-member (st .n) (st .stock) (st .table) (g .limits) q (r .quorum) in
     record {
@@ -64,49 +65,49 @@ request-ranged st s q h r =
           (and-both (lt-ltb q (length (st .table)) (r .quorum)) (and-both (r .units) (lt-ltb (lowest st q) (st .n) (low .station)))) t (g .phases t l);
       arbiters = g .arbiters;
       ups = λ t l j b. at2-all (λ lane. upLane (st .stock) lane ≡ true) (st .up) s (lowest st q) _
-          (keeps-more upPlaces (goesUp (st .stock)) (st .up s (lowest st q)) (Request h ∷ []) (g .ups s (r .station) (lowest st q) (low .station)) (and-both (r .units) refl) (r .room))
+          (keeps-more upPlaces (goesUp (st .stock)) (st .up s (lowest st q)) (Request h ∷ []) (g .ups s (r .station) (lowest st q) (low .station)) (and-both (r .units) refl) room)
           t j (λ o. g .ups t l j b);
       downs = g .downs;
     }
 
 -- ---- Up
 
-module _ (st : State) (s j : ℕ) (d : Delivers st s j (st .up s j) (upPasses st s j)) where
+module _ (st : State) (s j : ℕ) (m : Message) (rest : List Message) (d : Delivers st s j (st .up s j) m rest) (passes-not : upPasses st s j m ≡ false) where
   g : Ranged st
   g = ranged st (d .range)
 
-  lane : upLane (st .stock) (d .message ∷ d .rest) ≡ true
+  lane : upLane (st .stock) (m ∷ rest) ≡ true
   lane = rw (d .taken) at (g .ups s (d .station) j (d .arbiter))
 
-  room : (passes linePlaces (arrivedAt st s j (d .message) .line) ≡ false)
-      × (someBelow (λ t. passes downPlaces (granting (st .down) j (servedAt st s j (d .message) .grants) t j)) (st .n) ≡ false)
-  room = or-none _ _ (d .room)
+  room : (passes linePlaces (arrivedAt st s j m .line) ≡ false)
+      × (someBelow (λ t. passes downPlaces (granting (st .down) j (servedAt st s j m .grants) t j)) (st .n) ≡ false)
+  room = or-none _ _ passes-not
 
-  arbiter-in : arbiterIn (st .n) (st .stock) (servedAt st s j (d .message) .arbiter) ≡ true
+  arbiter-in : arbiterIn (st .n) (st .stock) (servedAt st s j m .arbiter) ≡ true
   arbiter-in =
-      facts-arbiter (st .n) (st .stock) (servedAt st s j (d .message) .arbiter)
-      (served-in (st .n) (st .stock) (arrivedAt st s j (d .message))
-      (arrived-in (st .n) (st .stock) (d .message) s (st .arbiter j) (d .station) (keeps-first upPlaces (goesUp (st .stock)) (d .message) (d .rest) lane) (room .0)
+      facts-arbiter (st .n) (st .stock) (servedAt st s j m .arbiter)
+      (served-in (st .n) (st .stock) (arrivedAt st s j m)
+      (arrived-in (st .n) (st .stock) m s (st .arbiter j) (d .station) (keeps-first upPlaces (goesUp (st .stock)) m rest lane) (room .0)
       (arbiter-facts (st .n) (st .stock) (st .arbiter j) (g .arbiters j (d .arbiter)))))
 
-  granting-in : (t : ℕ) → t < st .n → (x : ℕ) → x < st .n → downLane (granting (st .down) j (servedAt st s j (d .message) .grants) t x) ≡ true
+  granting-in : (t : ℕ) → t < st .n → (x : ℕ) → x < st .n → downLane (granting (st .down) j (servedAt st s j m .grants) t x) ≡ true
   unfolding granting
   granting-in t l x b =
       by-cases (ℕ-discrete x j)
-      (λ (e : x ≡ j). rw (e, eq-eqb j j refl) (keeps-more downPlaces goesDown (st .down t j) (grantsTo t (servedAt st s j (d .message) .grants)) (g .downs t l j (d .arbiter))
-      (grants-down (unitsIn t (servedAt st s j (d .message) .grants))) (rw (eq-eqb j j refl) at (some-never _ (st .n) (room .1) t l))))
+      (λ (e : x ≡ j). rw (e, eq-eqb j j refl) (keeps-more downPlaces goesDown (st .down t j) (grantsTo t (servedAt st s j m .grants)) (g .downs t l j (d .arbiter))
+      (grants-down (unitsIn t (servedAt st s j m .grants))) (rw (eq-eqb j j refl) at (some-never _ (st .n) (room .1) t l))))
       (λ (o : x ≡ j → ⊥). rw (ne-eqb x j o) (g .downs t l x b))
 
-  up-ranged : Ranged (delivered st s j (st .up s j))
-  unfolding delivered
-  up-ranged = rw (d .taken) (
+  up-ranged : Ranged (deliveredOf st s j m rest)
+  unfolding deliveredOf
+  up-ranged =
       record {
         limits = g .limits;
         phases = g .phases;
-        arbiters = λ x b. at-all (λ a. arbiterIn (st .n) (st .stock) a ≡ true) (st .arbiter) j (servedAt st s j (d .message) .arbiter) arbiter-in x (g .arbiters x b);
-        ups = λ t l x b. at2-all (λ z. upLane (st .stock) z ≡ true) (st .up) s j (d .rest) (keeps-rest upPlaces (goesUp (st .stock)) (d .message ∷ []) (d .rest) lane) t x (λ o. g .ups t l x b);
+        arbiters = λ x b. at-all (λ a. arbiterIn (st .n) (st .stock) a ≡ true) (st .arbiter) j (servedAt st s j m .arbiter) arbiter-in x (g .arbiters x b);
+        ups = λ t l x b. at2-all (λ z. upLane (st .stock) z ≡ true) (st .up) s j rest (keeps-rest upPlaces (goesUp (st .stock)) (m ∷ []) rest lane) t x (λ o. g .ups t l x b);
         downs = granting-in;
-      })
+      }
 
 -- ---- Down
 
@@ -138,28 +139,32 @@ taken-in n k table kept j (Collecting q h m) e = go (eqb m j)
     go false = refl
 taken-in n k table kept j (Holding q h) e = refl
 
-module _ (st : State) (s j : ℕ) (d : Delivers st s j (st .down s j) (λ m. downPasses st s (takenAt st s j))) where
+made-in : (n k : ℕ) (table : List ℕ) → brokenLimit n k table ≡ 0 → (j : ℕ) (p : Phase) (m : Message) → phaseIn n k table p ≡ true → takenIn n k table (madeOf table j p m) ≡ true
+unfolding takenIn
+made-in n k table kept j p m e = made-as (λ t. takenIn n k table t ≡ true) table j p refl (taken-in n k table kept j p e) m
+
+module _ (st : State) (s j : ℕ) (m : Message) (rest : List Message) (d : Delivers st s j (st .down s j) m rest) where
   in-range-before : Ranged st
   in-range-before = ranged st (d .range)
 
-  rest-in : (t : ℕ) → t < st .n → (x : ℕ) → x < st .n → downLane (at2 (st .down) s j (d .rest) t x) ≡ true
+  rest-in : (t : ℕ) → t < st .n → (x : ℕ) → x < st .n → downLane (at2 (st .down) s j rest t x) ≡ true
   rest-in t l x b =
       let downs = in-range-before .downs in
-      at2-all (λ z. downLane z ≡ true) (st .down) s j (d .rest) (keeps-rest downPlaces goesDown (d .message ∷ []) (d .rest) (rw (d .taken) at (downs s (d .station) j (d .arbiter)))) t x (λ o. downs t l x b)
+      at2-all (λ z. downLane z ≡ true) (st .down) s j rest (keeps-rest downPlaces goesDown (m ∷ []) rest (rw (d .taken) at (downs s (d .station) j (d .arbiter)))) t x (λ o. downs t l x b)
 
-  taken-ranged : (t : Taken) → takenIn (st .n) (st .stock) (st .table) t ≡ true → downPasses st s t ≡ false → Ranged (receivedAs st s j (d .rest) t)
+  taken-ranged : (t : Taken) → takenIn (st .n) (st .stock) (st .table) t ≡ true → downPasses st s t ≡ false → Ranged (receivedAs st s j rest t)
   unfolding receivedAs takenIn phaseIn goesUp
-  taken-ranged (Taken.asks q h m) e room =
+  taken-ranged (Taken.asks q h x) e room =
       let b = in-range-before in
-      let units = and-right (ltb q (length (st .table))) (upTo (st .stock) h && ltb m (st .n)) e in
-      let below = ltb-true m (st .n) (and-right (upTo (st .stock) h) (ltb m (st .n)) units) in
+      let units = and-right (ltb q (length (st .table))) (upTo (st .stock) h && ltb x (st .n)) e in
+      let below = ltb-true x (st .n) (and-right (upTo (st .stock) h) (ltb x (st .n)) units) in
       record {
         limits = b .limits;
-        phases = λ t l. at-all (λ p. phaseIn (st .n) (st .stock) (st .table) p ≡ true) (st .phase) s (Collecting q h m) e t (b .phases t l);
+        phases = λ t l. at-all (λ p. phaseIn (st .n) (st .stock) (st .table) p ≡ true) (st .phase) s (Collecting q h x) e t (b .phases t l);
         arbiters = b .arbiters;
-        ups = λ t l x c. at2-all (λ z. upLane (st .stock) z ≡ true) (st .up) s m (sent (st .up s m) (Request h))
-            (keeps-more upPlaces (goesUp (st .stock)) (st .up s m) (Request h ∷ []) (b .ups s (d .station) m below) (and-both (and-left (upTo (st .stock) h) (ltb m (st .n)) units) refl) room)
-            t x (λ o. b .ups t l x c);
+        ups = λ t l y c. at2-all (λ z. upLane (st .stock) z ≡ true) (st .up) s x (sent (st .up s x) (Request h))
+            (keeps-more upPlaces (goesUp (st .stock)) (st .up s x) (Request h ∷ []) (b .ups s (d .station) x below) (and-both (and-left (upTo (st .stock) h) (ltb x (st .n)) units) refl) room)
+            t y (λ o. b .ups t l y c);
         downs = rest-in;
       }
   taken-ranged (Taken.holds q h) e room =
@@ -181,37 +186,36 @@ module _ (st : State) (s j : ℕ) (d : Delivers st s j (st .down s j) (λ m. dow
         downs = rest-in;
       }
 
-  down-ranged : Ranged (received st s j (st .down s j))
-  unfolding received
-  down-ranged =
+  down-ranged : downPassesOf st s j m ≡ false → Ranged (receivedAs st s j rest (takenAt st s j m))
+  down-ranged room =
       let b = in-range-before in
-      rw (d .taken) (taken-ranged (takenAt st s j) (taken-in (st .n) (st .stock) (st .table) (b .limits) j (st .phase s) (b .phases s (d .station))) (d .room))
+      taken-ranged (takenAt st s j m) (made-in (st .n) (st .stock) (st .table) (b .limits) j (st .phase s) m (b .phases s (d .station))) room
 
 -- ---- Release
 
-release-ranged : (st : State) (s : ℕ) → Releases st s → Ranged (released st s (st .phase s))
-unfolding released phaseIn goesUp
-release-ranged st s r = rw (r .holding) (
+release-ranged : (st : State) (s q h : ℕ) → Releases st s q h → somePasses st s q ≡ false → Ranged (givenBack st s q)
+unfolding givenBack phaseIn goesUp
+release-ranged st s q h r room =
     record {
       limits = b .limits;
       phases = λ t l. at-all (λ p. phaseIn (st .n) (st .stock) (st .table) p ≡ true) (st .phase) s Idle refl t (b .phases t l);
       arbiters = b .arbiters;
-      ups = λ t l j c. at-all (λ row. upLane (st .stock) (row j) ≡ true) (st .up) s (releasing (quorum (st .table) (r .quorum)) (st .up s)) (row j c) t (b .ups t l j c);
+      ups = λ t l j c. at-all (λ row. upLane (st .stock) (row j) ≡ true) (st .up) s (releasing (quorum (st .table) q) (st .up s)) (row j c) t (b .ups t l j c);
       downs = b .downs;
-    })
+    }
   where
     b : Ranged st
     b = ranged st (r .range)
 
-    row : (j : ℕ) → j < st .n → upLane (st .stock) (releasing (quorum (st .table) (r .quorum)) (st .up s) j) ≡ true
+    row : (j : ℕ) → j < st .n → upLane (st .stock) (releasing (quorum (st .table) q) (st .up s) j) ≡ true
     row j c =
         ⊎-elim
-        (λ (t : member (quorum (st .table) (r .quorum)) j ≡ true).
-        rw (releasing-member (quorum (st .table) (r .quorum)) (st .up s) j t)
+        (λ (t : member (quorum (st .table) q) j ≡ true).
+        rw (releasing-member (quorum (st .table) q) (st .up s) j t)
         (keeps-more upPlaces (goesUp (st .stock)) (st .up s j) (Release ∷ []) (b .ups s (r .station) j c) refl
-        (rw (t, releasing-member (quorum (st .table) (r .quorum)) (st .up s) j t) at (some-never (λ j. releasePasses (quorum (st .table) (r .quorum)) (st .up s) j) (st .n) (r .room) j c))))
-        (λ (f : member (quorum (st .table) (r .quorum)) j ≡ false). rw (releasing-other (quorum (st .table) (r .quorum)) (st .up s) j f) (b .ups s (r .station) j c))
-        (known (member (quorum (st .table) (r .quorum)) j))
+        (rw (t, releasing-member (quorum (st .table) q) (st .up s) j t) at (some-never (λ j. releasePasses (quorum (st .table) q) (st .up s) j) (st .n) room j c))))
+        (λ (f : member (quorum (st .table) q) j ≡ false). rw (releasing-other (quorum (st .table) q) (st .up s) j f) (b .ups s (r .station) j c))
+        (known (member (quorum (st .table) q) j))
 
 -- ---- the theorem
 
@@ -225,10 +229,10 @@ call-in-range st c e =
     each-call (λ a. inRange (a .state) ≡ true) st
     (record {
       is-refused = λ r. e;
-      by-request = λ s q h r. in-range (requested st s q h) (request-ranged st s q h r);
-      by-up = λ s j d. in-range (delivered st s j (st .up s j)) (up-ranged st s j d);
-      by-down = λ s j d. in-range (received st s j (st .down s j)) (down-ranged st s j d);
-      by-release = λ s r. in-range (released st s (st .phase s)) (release-ranged st s r);
+      by-request = λ s q h r room. in-range (requested st s q h) (request-ranged st s q h r room);
+      by-up = λ s j m rest d room. in-range (deliveredOf st s j m rest) (up-ranged st s j m rest d room);
+      by-down = λ s j m rest d room. in-range (receivedAs st s j rest (takenAt st s j m)) (down-ranged st s j m rest d room);
+      by-release = λ s q h r room. in-range (givenBack st s q) (release-ranged st s q h r room);
     })
     c
 

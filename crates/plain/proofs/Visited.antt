@@ -20,18 +20,19 @@ use Rattle.stations.specs.Sets.{places, lowestFrom}
 use Rattle.stations.proofs.Lowest.{lowest-here}
 use Rattle.quorum.specs.Family.{quorum}
 use Rattle.plain.specs.Arbiter.{arrived, fits, Served, serve, unitsIn}
-use Rattle.plain.specs.Down.{Taken, onward, taken, takenAt, downPasses, enters, downRefusal, receivedAs, received, down}
+use Rattle.plain.specs.Down.{Taken, onward, taken, takenAt, downPasses, downPassesOf, receivedAs}
 use Rattle.plain.specs.InRange.{inRange}
 use Rattle.plain.specs.Lanes.{downPlaces, passes, sent}
 use Rattle.plain.specs.Run.{Call, call}
 use Rattle.plain.specs.State.{State}
-use Rattle.plain.specs.Up.{servedAt, granting, upPasses, upRefusal, delivered, up}
+use Rattle.plain.specs.Updates.{withArbiter, withUp, withDowns}
+use Rattle.plain.specs.Up.{servedAt, granting, upPasses, deliveredOf}
 use Rattle.plain.specs.declared.Entry.{Entry}
 use Rattle.plain.specs.declared.Message.the-variants.{Request, Grant}
 use Rattle.plain.specs.declared.Phase.{Phase}
 use Rattle.plain.specs.declared.Phase.the-variants.{Collecting, Holding}
 use Rattle.plain.proofs.Approaching.{station-place, onward-as, Lowest-member}
-use Rattle.plain.proofs.Passed.{answered-done, delivery-passes}
+use Rattle.plain.proofs.Passed.{up-done, down-done}
 use Rattle.plain.proofs.Range.{ranged}
 use Rattle.plain.proofs.StaysInRange.{call-in-range}
 use Rattle.plain.proofs.Visiting.{toward, Visiting}
@@ -39,15 +40,8 @@ use Rattle.plain.proofs.Visiting.{toward, Visiting}
 -- arbiter i has granted h units to station s, and GRANT is under way
 unfoldable pub grantedTo : State → ℕ → ℕ → ℕ → State
 grantedTo st s h i =
-    record {
-      n = st .n;
-      stock = st .stock;
-      table = st .table;
-      phase = st .phase;
-      arbiter = at (st .arbiter) i (record { granted = at (st .arbiter i .granted) s h; line = [] });
-      up = at2 (st .up) s i [];
-      down = granting (st .down) i (record { station = s; units = h } ∷ []);
-    }
+    withDowns (granting (st .down) i (record { station = s; units = h } ∷ []))
+    (withArbiter i (record { granted = at (st .arbiter i .granted) s h; line = [] }) (withUp s i [] st))
 
 -- and the station has taken the GRANT
 unfoldable pub visited : State → ℕ → ℕ → ℕ → ℕ → State
@@ -109,20 +103,17 @@ module _ (st : State) (was : ℕ → Phase) (s p h i : ℕ) (load : ℕ → ℕ)
   unfolding arrived after-service
   up-room = rw (service, v .lines i) (not-true-false _ (λ t. let (x, l, full) = some-found _ (st .n) t in clash full (short x)))
 
-  up-done : call st (Call.Up s i) .state ≡ granted
-  unfolding call up delivered grantedTo after-service entry
-  up-done =
-      ap (λ a. a .state)
-      (answered-done st (upRefusal st s i) 0 0 (delivered st s i (st .up s i))
-      (delivery-passes st s i (st .up s i) (upPasses st s i)
-      (record { range = v .range; station = exists; arbiter = below; message = Request h; rest = []; taken = lane; room = up-room })))
-      ∙ rw (lane, service)
+  granted-done : call st (Call.Up s i) .state ≡ granted
+  unfolding call deliveredOf grantedTo after-service entry
+  granted-done =
+      ap (λ a. a .state) (up-done st s i (record { range = v .range; station = exists; arbiter = below; taken = lane }) up-room)
+      ∙ rw service
 
   -- then no lane up has a message
   ups-empty : (t j : ℕ) → j < st .n → at2 (st .up) s i [] t j ≡ []
   ups-empty t j l = at2-all (λ lane. lane ≡ []) (st .up) s i [] refl t j (λ o. v .ups t j l (λ x y. o x (y ∙ here)))
 
-  taken-onward : takenAt granted s i ≡ onward (st .table) p h i
+  taken-onward : takenAt granted s i Grant ≡ onward (st .table) p h i
   unfolding taken grantedTo
   taken-onward = rw (collecting, eq-eqb i i refl)
 
@@ -133,27 +124,24 @@ module _ (st : State) (was : ℕ → Phase) (s p h i : ℕ) (load : ℕ → ℕ)
       → P (onward (st .table) p h i)
   onward-next P asks holds = onward-as (st .n) (st .stock) (st .table) (ranged st (v .range) .limits) p number P h i asks (λ l none. holds l)
 
-  down-room : downPasses granted s (takenAt granted s i) ≡ false
+  down-room : downPassesOf granted s i Grant ≡ false
   unfolding grantedTo
   down-room = rw taken-onward (onward-next (λ t. downPasses granted s t ≡ false) (λ m. rw (ups-empty s (lowestFrom (quorum (st .table) p) (suc i)) (m .station)) refl) (λ none. refl))
 
   range-granted : inRange granted ≡ true
-  range-granted = rw (sym up-done) (call-in-range st (Call.Up s i) (v .range))
+  range-granted = rw (sym granted-done) (call-in-range st (Call.Up s i) (v .range))
 
-  down-done : call granted (Call.Down s i) .state ≡ visited st s p h i
-  unfolding call down received visited grantedTo entry
-  down-done =
-      ap (λ a. a .state)
-      (answered-done granted (downRefusal granted s i) (enters (takenAt granted s i)) 0 (received granted s i (granted .down s i))
-      (delivery-passes granted s i (granted .down s i) (λ m. downPasses granted s (takenAt granted s i))
-      (record { range = range-granted; station = exists; arbiter = below; message = Grant; rest = []; taken = grant-lane; room = down-room })))
-      ∙ rw (grant-lane, taken-onward)
+  grant-taken : call granted (Call.Down s i) .state ≡ visited st s p h i
+  unfolding call visited grantedTo entry
+  grant-taken =
+      ap (λ a. a .state) (down-done granted s i (record { range = range-granted; station = exists; arbiter = below; taken = grant-lane }) down-room)
+      ∙ ap (receivedAs granted s i []) taken-onward
 
   pub visit-done : call (call st (Call.Up s i) .state) (Call.Down s i) .state ≡ visited st s p h i
-  visit-done = rw up-done down-done
+  visit-done = rw granted-done grant-taken
 
   range-visited : inRange (visited st s p h i) ≡ true
-  range-visited = rw (sym down-done) (call-in-range granted (Call.Down s i) range-granted)
+  range-visited = rw (sym grant-taken) (call-in-range granted (Call.Down s i) range-granted)
 
   visited-downs : (t j : ℕ) → at2 (granting (st .down) i (entry ∷ [])) s i [] t j ≡ []
   visited-downs t j = at2-all (λ lane. lane ≡ []) (granting (st .down) i (entry ∷ [])) s i [] refl t j (λ o. grant-others t j o)

@@ -17,16 +17,17 @@ use Rattle.stations.specs.Sets.{places, lowestFrom}
 use Rattle.stations.proofs.Lowest.{lowest-later}
 use Rattle.quorum.specs.Family.{quorum}
 use Rattle.quorum.specs.Limits.{upTo}
+use Rattle.plain.specs.Inner.Passed.{Requests}
 use Rattle.plain.specs.InRange.{inRange}
 use Rattle.plain.specs.Lanes.{sent}
-use Rattle.plain.specs.Request.{lowest, requestRefusal, requested, request}
+use Rattle.plain.specs.Request.{lowest, requested}
 use Rattle.plain.specs.Run.{Call, call}
 use Rattle.plain.specs.State.{State}
 use Rattle.plain.specs.declared.Message.the-variants.{Request}
 use Rattle.plain.specs.declared.Phase.{Phase}
 use Rattle.plain.specs.declared.Phase.the-variants.{Idle, Collecting, Holding}
 use Rattle.plain.proofs.Approaching.{Lowest-member, first-member}
-use Rattle.plain.proofs.Passed.{answered-done, request-passes}
+use Rattle.plain.proofs.Passed.{request-done}
 use Rattle.plain.proofs.Range.{ranged}
 use Rattle.plain.proofs.StaysInRange.{call-in-range}
 
@@ -62,27 +63,18 @@ module _ (st : State) (s p h : ℕ) (load : ℕ → ℕ) (calm : Calm st s load)
   first : Lowest-member (st .n) (quorum (st .table) p) 0 (lowest st p)
   first = first-member (st .n) (st .stock) (st .table) (ranged st (calm .range) .limits) p number
 
-  not-refused : requestRefusal st s p h ≡ 0
-  not-refused =
-      request-passes st s p h
-      (record {
-        range = calm .range;
-        station = exists;
-        quorum = number;
-        units = units;
-        idle = calm .idle s (omega arith);
-        room = rw (calm .ups s (lowest st p) (first .station)) refl;
-      })
+  passed : Requests st s p h
+  passed = record { range = calm .range; station = exists; quorum = number; units = units; idle = calm .idle s (omega arith) }
 
-  pub request-done : call st (Call.Request s p h) .state ≡ requested st s p h
-  unfolding call request
-  request-done = ap (λ a. a .state) (answered-done st (requestRefusal st s p h) 0 0 (requested st s p h) not-refused)
+  pub asked-done : call st (Call.Request s p h) .state ≡ requested st s p h
+  unfolding call
+  asked-done = ap (λ a. a .state) (request-done st s p h passed (rw (calm .ups s (lowest st p) (first .station)) refl))
 
   pub request-visits : Visiting (requested st s p h) (st .phase) s p h 0 load
   unfolding requested toward
   request-visits =
       record {
-        range = rw (sym request-done) (call-in-range st (Call.Request s p h) (calm .range));
+        range = rw (sym asked-done) (call-in-range st (Call.Request s p h) (calm .range));
         phase = rw (at-same (st .phase) s (Collecting p h (lowest st p)), lt-ltb (lowest st p) places (first .place));
         others = λ t o. at-other (st .phase) s (Collecting p h (lowest st p)) t o;
         asked = λ l. rw (at2-same (st .up) s (lowest st p) (sent (st .up s (lowest st p)) (Request h)), calm .ups s (lowest st p) (first .station));

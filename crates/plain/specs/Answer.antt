@@ -1,7 +1,6 @@
 -- What a call of the plain machine answers.
-use mathlib.Core.Bool.{cond}
 use Prim.Native.Nat.{ℕ}
-use lib.Dec.{eqb}
+use Rattle.lists.specs.Broken.{doneOr}
 use Rattle.plain.specs.State.{State}
 
 -- "Each call returns refusal, units entered (else 0), units left (else 0) and the record."
@@ -15,6 +14,10 @@ pub record Answer : Type 0 where
 abbrev pub refused : State → ℕ → Answer
 refused st r = record { refusal = r; entered = 0; left = 0; state = st }
 
--- the answer to a call on st that is refused by r, or else (r = 0) enters and leaves so many units and leads to the state `next`
+-- a call that is done enters and leaves so many units and leads to the state `next`
+abbrev pub done : ℕ → ℕ → State → Answer
+done entered left next = record { refusal = 0; entered = entered; left = left; state = next }
+
+-- the answer to a call on st that is refused by r, or else (r = 0) is done
 unfoldable pub answered : State → ℕ → ℕ → ℕ → State → Answer
-answered st r entered left next = cond (eqb r 0) (record { refusal = 0; entered = entered; left = left; state = next }) (refused st r)
+answered st r entered left next = doneOr (done entered left next) (refused st) r

@@ -1,19 +1,21 @@
 -- An arbiter's part of Up: a message arrives, then the line is served.
 use mathlib.Core.Bool.{Bool, cond}
-use mathlib.Core.List.{List, [], _∷_, _++_, map}
+use mathlib.Core.List.{List, [], _∷_, map}
 use Prim.Native.Nat.{ℕ, _+_}
 use lib.Dec.{eqb, leb}
 use Rattle.lists.specs.At.{at}
 use Rattle.lists.specs.Counting.{total}
+use Rattle.plain.specs.Lanes.{sent}
 use Rattle.plain.specs.State.{Arbiter}
+use Rattle.plain.specs.Updates.{withGranted, withLine}
 use Rattle.plain.specs.declared.Entry.{Entry}
 use Rattle.plain.specs.declared.Message.{Message}
 use Rattle.plain.specs.declared.Message.the-variants.{Request, Release, Grant}
 
 -- "REQUEST(h) joins the end of j's line. RELEASE sets s's granted units at j to 0." (No up lane in range has a GRANT.)
 unfoldable pub arrived : Message → ℕ → Arbiter → Arbiter
-arrived (Request h) s a = record { granted = a .granted; line = a .line ++ (record { station = s; units = h } ∷ []) }
-arrived Release s a = record { granted = at (a .granted) s 0; line = a .line }
+arrived (Request h) s a = withLine (sent (a .line) (record { station = s; units = h })) a
+arrived Release s a = withGranted s 0 a
 arrived Grant s a = a
 
 -- "fits (its units plus all units granted at j are at most k)"

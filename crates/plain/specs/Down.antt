@@ -3,19 +3,21 @@ use mathlib.Core.Bool.{Bool, false, cond}
 use mathlib.Core.List.{List, [], _∷_}
 use Prim.Native.Nat.{ℕ, suc}
 use lib.Dec.{eqb, ltb}
-use Rattle.lists.specs.At.{at, at2}
+use Rattle.lists.specs.At.{at}
+use Rattle.lists.specs.Broken.{Test}
 use Rattle.stations.specs.Sets.{places, lowestFrom}
 use Rattle.quorum.specs.Family.{quorum}
 use Rattle.plain.specs.Answer.{Answer, answered}
-use Rattle.plain.specs.Delivery.{deliveryRefusal}
-use Rattle.plain.specs.Lanes.{upPlaces, passes, sent}
+use Rattle.plain.specs.Asking.{askPasses, asking}
+use Rattle.plain.specs.Delivery.{deliveryTests, deliveryRefusal}
 use Rattle.plain.specs.State.{State}
+use Rattle.plain.specs.Updates.{withPhases, withUps, withDown}
 use Rattle.plain.specs.declared.Message.{Message}
-use Rattle.plain.specs.declared.Message.the-variants.{Request}
+use Rattle.plain.specs.declared.Message.the-variants.{Request, Release, Grant}
 use Rattle.plain.specs.declared.Phase.{Phase}
 use Rattle.plain.specs.declared.Phase.the-variants.{Idle, Collecting, Holding}
 
--- what a station makes of a GRANT: it asks the next member of its quorum for its units, it holds its units, or it drops the GRANT
+-- what a station makes of a message: it asks the next member of its quorum for its units, it holds its units, or it drops the message
 pub data Taken : Type 0 where
   asks : (quorum units member : ℕ) → Taken
   holds : (quorum units : ℕ) → Taken
@@ -31,9 +33,15 @@ taken table j Idle = Taken.drops
 taken table j (Collecting q h m) = cond (eqb m j) (onward table q h j) Taken.drops
 taken table j (Holding q h) = Taken.drops
 
--- what station s makes of a GRANT from j
-abbrev pub takenAt : State → ℕ → ℕ → Taken
-takenAt st s j = taken (st .table) j (st .phase s)
+-- what a station in this phase makes of a message from j (No down lane in range has a REQUEST or a RELEASE.)
+abbrev pub madeOf : List ℕ → ℕ → Phase → Message → Taken
+madeOf table j p (Request h) = Taken.drops
+madeOf table j p Release = Taken.drops
+madeOf table j p Grant = taken table j p
+
+-- what station s makes of it
+abbrev pub takenAt : State → ℕ → ℕ → Message → Taken
+takenAt st s j m = madeOf (st .table) j (st .phase s) m
 
 -- "otherwise s holds and h units are entered"
 abbrev pub enters : Taken → ℕ
@@ -43,42 +51,46 @@ enters Taken.drops = 0
 
 -- "a lane .. would pass its limit": only REQUEST takes a place
 abbrev pub downPasses : State → ℕ → Taken → Bool
-downPasses st s (Taken.asks q h m) = passes upPlaces (sent (st .up s m) (Request h))
+downPasses st s (Taken.asks q h m) = askPasses st s h m
 downPasses st s (Taken.holds q h) = false
 downPasses st s Taken.drops = false
 
+-- of the message m
+abbrev pub downPassesOf : State → ℕ → ℕ → Message → Bool
+downPassesOf st s j m = downPasses st s (takenAt st s j m)
+
+-- 19; 8; 13; 14
+abbrev pub downTests : State → ℕ → ℕ → List Test
+downTests st s j = deliveryTests st s j (st .down s j) (downPassesOf st s j)
+
 abbrev pub downRefusal : State → ℕ → ℕ → ℕ
-downRefusal st s j = deliveryRefusal st s j (st .down s j) (λ m. downPasses st s (takenAt st s j))
+downRefusal st s j = deliveryRefusal st s j (st .down s j) (downPassesOf st s j)
 
 -- what the station does then
 abbrev pub phaseThen : State → ℕ → Taken → ℕ → Phase
-phaseThen st s (Taken.asks q h m) = at (st .phase) s (Collecting q h m)
+phaseThen st s (Taken.asks q h m) = asking st s q h m .phase
 phaseThen st s (Taken.holds q h) = at (st .phase) s (Holding q h)
 phaseThen st s Taken.drops = st .phase
 
 -- and its lanes up
 abbrev pub upThen : State → ℕ → Taken → ℕ → ℕ → List Message
-upThen st s (Taken.asks q h m) = at2 (st .up) s m (sent (st .up s m) (Request h))
+upThen st s (Taken.asks q h m) = asking st s q h m .up
 upThen st s (Taken.holds q h) = st .up
 upThen st s Taken.drops = st .up
 
--- "takes the oldest message": the state when the rest of the lane is left and the station has made this of the GRANT
+-- "takes the oldest message": the rest of the lane stays, and the station has made this of the message
 unfoldable pub receivedAs : State → ℕ → ℕ → List Message → Taken → State
-receivedAs st s j rest t =
-    record {
-      n = st .n;
-      stock = st .stock;
-      table = st .table;
-      phase = phaseThen st s t;
-      arbiter = st .arbiter;
-      up = upThen st s t;
-      down = at2 (st .down) s j rest;
-    }
+receivedAs st s j rest t = withPhases (phaseThen st s t) (withUps (upThen st s t) (withDown s j rest st))
 
 unfoldable pub received : State → ℕ → ℕ → List Message → State
 received st s j [] = st
-received st s j (m ∷ rest) = receivedAs st s j rest (takenAt st s j)
+received st s j (m ∷ rest) = receivedAs st s j rest (takenAt st s j m)
+
+-- the units that its oldest message enters
+unfoldable pub entering : State → ℕ → ℕ → List Message → ℕ
+entering st s j [] = 0
+entering st s j (m ∷ rest) = enters (takenAt st s j m)
 
 -- Down(s, j)
 unfoldable pub down : State → ℕ → ℕ → Answer
-down st s j = answered st (downRefusal st s j) (enters (takenAt st s j)) 0 (received st s j (st .down s j))
+down st s j = answered st (downRefusal st s j) (entering st s j (st .down s j)) 0 (received st s j (st .down s j))

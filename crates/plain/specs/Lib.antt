@@ -1,7 +1,9 @@
 pub mod State
+pub mod Updates
 pub mod Lanes
 pub mod Answer
 pub mod InRange
+pub mod Asking
 pub mod Request
 pub mod Arbiter
 pub mod Delivery
@@ -10,3 +12,4 @@ pub mod Down
 pub mod Release
 pub mod Run
 pub mod Exceeding
+pub mod Inner

@@ -1,16 +1,18 @@
 -- The call Release: a station gives its units back.
-use mathlib.Core.Bool.{Bool, cond, not, _&&_}
-use mathlib.Core.List.{List}
+use mathlib.Core.Bool.{Bool, true, false, cond, not, _&&_}
+use mathlib.Core.List.{List, [], _∷_}
 use Prim.Native.Nat.{ℕ}
 use lib.Dec.{leb}
 use Rattle.lists.specs.At.{at}
+use Rattle.lists.specs.Broken.{Test, _when_, firstBroken}
 use Rattle.lists.specs.Search.{someBelow}
 use Rattle.stations.specs.Member.{member}
 use Rattle.quorum.specs.Family.{quorum}
 use Rattle.plain.specs.Answer.{Answer, answered}
 use Rattle.plain.specs.InRange.{inRange}
-use Rattle.plain.specs.Lanes.{upPlaces, passes, sent}
+use Rattle.plain.specs.Lanes.{upPlaces, noPlace, passes, sent}
 use Rattle.plain.specs.State.{State}
+use Rattle.plain.specs.Updates.{withPhase, withUps}
 use Rattle.plain.specs.declared.Message.{Message}
 use Rattle.plain.specs.declared.Message.the-variants.{Release}
 use Rattle.plain.specs.declared.Phase.{Phase}
@@ -24,31 +26,43 @@ releasing q lanes j = cond (member q j) (sent (lanes j) Release) (lanes j)
 abbrev pub releasePasses : ℕ → (ℕ → List Message) → ℕ → Bool
 releasePasses q lanes j = member q j && passes upPlaces (releasing q lanes j)
 
--- 12 "station not holding"; 14 "a lane .. would pass its limit"
-abbrev pub holderRefusal : State → ℕ → Phase → ℕ
-holderRefusal st s Idle = 12
-holderRefusal st s (Collecting q h m) = 12
-holderRefusal st s (Holding q h) =
-    cond (someBelow (λ j. releasePasses (quorum (st .table) q) (st .up s) j) (st .n)) 14 0
+-- "a lane .. would pass its limit": of those to the members of the quorum that is held
+abbrev pub somePasses : State → ℕ → ℕ → Bool
+somePasses st s q = someBelow (λ j. releasePasses (quorum (st .table) q) (st .up s) j) (st .n)
 
--- 19; 8 "station or arbiter ≥ n"; 12; 14
+-- none where the station holds nothing
+abbrev pub backPasses : State → ℕ → Phase → Bool
+backPasses st s Idle = false
+backPasses st s (Collecting q h m) = false
+backPasses st s (Holding q h) = somePasses st s q
+
+abbrev pub isHolding : Phase → Bool
+isHolding Idle = false
+isHolding (Collecting q h m) = false
+isHolding (Holding q h) = true
+
+-- 19; 8 "station or arbiter ≥ n"; 12 "station not holding"; 14
+abbrev pub releaseTests : State → ℕ → List Test
+releaseTests st s =
+    19 when not (inRange st)
+    ∷ 8 when leb (st .n) s
+    ∷ 12 when not (isHolding (st .phase s))
+    ∷ noPlace when backPasses st s (st .phase s)
+    ∷ []
+
+-- the first of them that is broken
 unfoldable pub releaseRefusal : State → ℕ → ℕ
-releaseRefusal st s = cond (not (inRange st)) 19 (cond (leb (st .n) s) 8 (holderRefusal st s (st .phase s)))
+releaseRefusal st s = firstBroken (releaseTests st s)
 
--- "s is idle"
+-- "s is idle", and RELEASE has gone up to all members of its quorum
+unfoldable pub givenBack : State → ℕ → ℕ → State
+givenBack st s q = withPhase s Idle (withUps (at (st .up) s (releasing (quorum (st .table) q) (st .up s))) st)
+
+-- by what the station does
 unfoldable pub released : State → ℕ → Phase → State
 released st s Idle = st
 released st s (Collecting q h m) = st
-released st s (Holding q h) =
-    record {
-      n = st .n;
-      stock = st .stock;
-      table = st .table;
-      phase = at (st .phase) s Idle;
-      arbiter = st .arbiter;
-      up = at (st .up) s (releasing (quorum (st .table) q) (st .up s));
-      down = st .down;
-    }
+released st s (Holding q h) = givenBack st s q
 
 -- "its h units are left": the units that a station in this phase holds
 abbrev pub held : Phase → ℕ

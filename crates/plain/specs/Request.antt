@@ -1,17 +1,18 @@
 -- The call Request: a station asks for units by a quorum.
-use mathlib.Core.Bool.{Bool, true, false, cond, not}
+use mathlib.Core.Bool.{Bool, true, false, not}
+use mathlib.Core.List.{List, [], _∷_}
 use Prim.Native.Nat.{ℕ}
 use lib.Dec.{leb}
 use lib.ListN.{length}
-use Rattle.lists.specs.At.{at, at2}
+use Rattle.lists.specs.Broken.{Test, _when_, firstBroken}
 use Rattle.stations.specs.Sets.{lowestFrom}
 use Rattle.quorum.specs.Family.{quorum}
 use Rattle.quorum.specs.Limits.{upTo}
 use Rattle.plain.specs.Answer.{Answer, answered}
+use Rattle.plain.specs.Asking.{askPasses, asking}
 use Rattle.plain.specs.InRange.{inRange}
-use Rattle.plain.specs.Lanes.{upPlaces, passes, sent}
+use Rattle.plain.specs.Lanes.{noPlace}
 use Rattle.plain.specs.State.{State}
-use Rattle.plain.specs.declared.Message.the-variants.{Request}
 use Rattle.plain.specs.declared.Phase.{Phase}
 use Rattle.plain.specs.declared.Phase.the-variants.{Idle, Collecting, Holding}
 
@@ -24,28 +25,28 @@ isIdle (Holding q h) = false
 abbrev pub lowest : State → ℕ → ℕ
 lowest st q = lowestFrom (quorum (st .table) q) 0
 
--- 19; 8 "station or arbiter ≥ n"; 9 "no such quorum"; 10 "units outside 1..k"; 11 "station not idle"; 14 "a lane .. would pass its limit"
+-- "a lane .. would pass its limit": the one to the lowest member
+abbrev pub requestPasses : State → ℕ → ℕ → ℕ → Bool
+requestPasses st s q h = askPasses st s h (lowest st q)
+
+-- 19; 8 "station or arbiter ≥ n"; 9 "no such quorum"; 10 "units outside 1..k"; 11 "station not idle"; 14
+abbrev pub requestTests : State → ℕ → ℕ → ℕ → List Test
+requestTests st s q h =
+    19 when not (inRange st)
+    ∷ 8 when leb (st .n) s
+    ∷ 9 when leb (length (st .table)) q
+    ∷ 10 when not (upTo (st .stock) h)
+    ∷ 11 when not (isIdle (st .phase s))
+    ∷ noPlace when requestPasses st s q h
+    ∷ []
+
+-- the first of them that is broken
 unfoldable pub requestRefusal : State → ℕ → ℕ → ℕ → ℕ
-requestRefusal st s q h =
-    cond (not (inRange st)) 19
-    (cond (leb (st .n) s) 8
-    (cond (leb (length (st .table)) q) 9
-    (cond (not (upTo (st .stock) h)) 10
-    (cond (not (isIdle (st .phase s))) 11
-    (cond (passes upPlaces (sent (st .up s (lowest st q)) (Request h))) 14 0)))))
+requestRefusal st s q h = firstBroken (requestTests st s q h)
 
 -- "s collects; REQUEST(h) goes up to the lowest member"
 unfoldable pub requested : State → ℕ → ℕ → ℕ → State
-requested st s q h =
-    record {
-      n = st .n;
-      stock = st .stock;
-      table = st .table;
-      phase = at (st .phase) s (Collecting q h (lowest st q));
-      arbiter = st .arbiter;
-      up = at2 (st .up) s (lowest st q) (sent (st .up s (lowest st q)) (Request h));
-      down = st .down;
-    }
+requested st s q h = asking st s q h (lowest st q)
 
 -- Request(s, q, h)
 unfoldable pub request : State → ℕ → ℕ → ℕ → Answer

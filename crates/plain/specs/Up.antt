@@ -3,13 +3,14 @@ use mathlib.Core.Bool.{Bool, cond, _||_}
 use mathlib.Core.List.{List, [], _∷_, _++_}
 use Prim.Native.Nat.{ℕ}
 use lib.Dec.{eqb}
-use Rattle.lists.specs.At.{at, at2}
+use Rattle.lists.specs.Broken.{Test}
 use Rattle.lists.specs.Search.{someBelow}
 use Rattle.plain.specs.Answer.{Answer, answered}
 use Rattle.plain.specs.Arbiter.{arrived, Served, served, grantsTo}
-use Rattle.plain.specs.Delivery.{deliveryRefusal}
+use Rattle.plain.specs.Delivery.{deliveryTests, deliveryRefusal}
 use Rattle.plain.specs.Lanes.{downPlaces, linePlaces, passes}
 use Rattle.plain.specs.State.{Arbiter, State}
+use Rattle.plain.specs.Updates.{withArbiter, withUp, withDowns}
 use Rattle.plain.specs.declared.Entry.{Entry}
 use Rattle.plain.specs.declared.Message.{Message}
 
@@ -32,22 +33,21 @@ upPasses st s j m =
     passes linePlaces (arrivedAt st s j m .line)
     || someBelow (λ t. passes downPlaces (granting (st .down) j (servedAt st s j m .grants) t j)) (st .n)
 
+-- 19; 8; 13; 14
+abbrev pub upTests : State → ℕ → ℕ → List Test
+upTests st s j = deliveryTests st s j (st .up s j) (upPasses st s j)
+
 abbrev pub upRefusal : State → ℕ → ℕ → ℕ
 upRefusal st s j = deliveryRefusal st s j (st .up s j) (upPasses st s j)
 
--- "takes the oldest message": the arbiter's part, then the grants go down
+-- "takes the oldest message": the arbiter's part, then the grants go down; the rest of the lane stays
+unfoldable pub deliveredOf : State → ℕ → ℕ → Message → List Message → State
+deliveredOf st s j m rest =
+    withDowns (granting (st .down) j (servedAt st s j m .grants)) (withArbiter j (servedAt st s j m .arbiter) (withUp s j rest st))
+
 unfoldable pub delivered : State → ℕ → ℕ → List Message → State
 delivered st s j [] = st
-delivered st s j (m ∷ rest) =
-    record {
-      n = st .n;
-      stock = st .stock;
-      table = st .table;
-      phase = st .phase;
-      arbiter = at (st .arbiter) j (servedAt st s j m .arbiter);
-      up = at2 (st .up) s j rest;
-      down = granting (st .down) j (servedAt st s j m .grants);
-    }
+delivered st s j (m ∷ rest) = deliveredOf st s j m rest
 
 -- Up(s, j)
 unfoldable pub up : State → ℕ → ℕ → Answer

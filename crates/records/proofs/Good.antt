@@ -12,6 +12,7 @@ use denote.RattleType.{RattleType}
 use denote.Shadow.{shadow}
 use denote.Struct.Declared.{row, shape}
 use denote.Struct.Struct.{Struct}
+use Rattle.plain.specs.Lanes.{upPlaces, linePlaces}
 use Rattle.records.specs.View.{noRow}
 use Rattle.records.specs.declared.Arbiter.{Arbiter}
 use Rattle.records.specs.declared.Lane.{Lane}
@@ -32,7 +33,7 @@ module _ (R : RattleType) (A : Type 0) (to : A → R .Denot) (P : A → Type 0) 
   each-all (x ∷ xs) (u ∷ us) s zero h = known x (u ∷ []) (s .0)
   each-all (x ∷ xs) (u ∷ us) s (suc i) h = each-all xs us (s .1) i (le-of-suc-le-suc h)
 
-pub slots-of : (l : Lane) (vs : List Val) → Is (row lane-type.the-type) l vs → length (l .slots) ≡ 4
+pub slots-of : (l : Lane) (vs : List Val) → Is (row lane-type.the-type) l vs → length (l .slots) ≡ upPlaces
 slots-of l vs p = sym (length-map (l .slots) _) ∙ p .1 .1 .1 .0 .1 .0 .1
 
 pub lanes-of : (w : Row) (vs : List Val) → Is (row row-type.the-type) w vs → length (w .lanes) ≡ 12
@@ -45,7 +46,7 @@ pub lanes-of-row : (t : Lanes) (vs : List Val) → Is (row lanes-type.the-type) 
 lanes-of-row t vs p i h =
     each-all (Struct (shape row-type.the-type)) Row (row-type.the-type .to) (λ w. length (w .lanes) ≡ 12) lanes-of noRow (t .rows) (p .1 .1 .0 .0) (p .1 .1 .0 .1 .1) i (rw (rows-of t vs p) h)
 
-pub line-of : (a : Arbiter) (vs : List Val) → Is (row arbiter-type.the-type) a vs → length (a .line) ≡ 12
+pub line-of : (a : Arbiter) (vs : List Val) → Is (row arbiter-type.the-type) a vs → length (a .line) ≡ linePlaces
 line-of a vs p = sym (length-map (a .line) _) ∙ p .1 .1 .1 .1 .0 .1 .0 .1
 
 pub granted-of : (a : Arbiter) (vs : List Val) → Is (row arbiter-type.the-type) a vs → length (a .granted) ≡ 12

@@ -1,3 +1,4 @@
 pub mod Good
 pub mod Viewing
+pub mod Storing
 pub mod Ranging

@@ -12,7 +12,7 @@ use Rattle.lists.specs.Cut.{cut}
 use Rattle.lists.specs.Search.{all, everyBelow}
 use Rattle.lists.proofs.Arrays.{every-shown}
 use Rattle.lists.proofs.Cuts.{length-cut, all-cut}
-use Rattle.lists.proofs.Searches.{all-map, every-false}
+use Rattle.lists.proofs.Searches.{all-map}
 use Rattle.quorum.specs.Limits.{mostQuorums, brokenLimit}
 use Rattle.quorum.proofs.Promises.{limits-kept}
 use Rattle.plain.specs.InRange.{goesUp, goesDown, entryIn, arbiterIn, phaseIn}
@@ -32,7 +32,7 @@ lane-all : (f : _ → Bool) (l : Lane) → all f (laneOf l) ≡ everyBelow (λ p
 unfolding laneOf
 lane-all f l = all-map f messageOf (cut noSlot (l .len) (l .slots)) ∙ all-cut noSlot (λ (s : Slot). f (s .message)) (l .len) (l .slots)
 
--- a lane that is too long; that has a message which may not stand there; and one in range
+-- a lane that is too long, and one that is not
 module _ (upward : Bool) (k : ℕ) (l : Lane) where
   abbrev test : ℕ → Bool
   test p = goes upward k (getD (l .slots) p noSlot .message)
@@ -44,11 +44,8 @@ module _ (upward : Bool) (k : ℕ) (l : Lane) where
   pub lane-long : lanePlaces upward < l .len → laneIn upward k (laneOf l) ≡ false
   lane-long h = rw (lane-in, lt-leb (l .len) (lanePlaces upward) h)
 
-  pub lane-bad : (i : ℕ) → i < l .len → test i ≡ false → laneIn upward k (laneOf l) ≡ false
-  lane-bad i h e = rw (lane-in, every-false test (l .len) i h e) (and-false (leb (l .len) (lanePlaces upward)))
-
-  pub lane-good : l .len ≤ lanePlaces upward → everyBelow test (l .len) ≡ true → laneIn upward k (laneOf l) ≡ true
-  lane-good h e = rw (lane-in, le-leb (l .len) (lanePlaces upward) h) e
+  pub lane-kept : l .len ≤ lanePlaces upward → laneIn upward k (laneOf l) ≡ everyBelow test (l .len)
+  lane-kept h = rw (lane-in, le-leb (l .len) (lanePlaces upward) h)
 
 pub row-in : (upward : Bool) (n k : ℕ) (w : Row) → rowIn upward n k (rowOf n w) ≡ everyBelow (λ j. laneIn upward k (laneOf (getD (w .lanes) j noLane))) n
 unfolding rowOf

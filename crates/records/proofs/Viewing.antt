@@ -13,7 +13,7 @@ use Rattle.lists.proofs.Arrays.{shown-in, shown-set}
 use Rattle.lists.proofs.Cuts.{length-cut, cut-push, cut-within, getD-cut}
 use Rattle.lists.proofs.Joined.{map-append}
 use Rattle.quorum.specs.Family.{quorum}
-use Rattle.plain.specs.Lanes.{sent}
+use Rattle.plain.specs.Lanes.{upPlaces, sent}
 use Rattle.plain.specs.declared.Message.{Message}
 use Rattle.records.specs.View.{noSlot, noLane, noRow, noStation, noArbiter, messageOf, laneOf, rowOf, lanesOf, phaseOf, phasesOf, grantedOf, arbiterOf, arbitersOf, tableOf}
 use Rattle.records.specs.declared.Arbiter.{Arbiter}
@@ -35,7 +35,7 @@ unfolding laneOf
 lane-empty l e = rw e
 
 -- a message in the place after the last
-pub lane-put : (len : ℕ) (slots : List Slot) (m : Message) → length slots ≡ 4 → len < 4
+pub lane-put : (len : ℕ) (slots : List Slot) (m : Message) → length slots ≡ upPlaces → len < upPlaces
     → laneOf (record { len = len + 1; slots = set slots len (record { message = m }) }) ≡ sent (laneOf (record { len = len; slots = slots })) m
 unfolding laneOf
 lane-put len slots m e h =
@@ -43,7 +43,7 @@ lane-put len slots m e h =
     rw (cut-push noSlot len slots (record { message = m }) h′) (map-append messageOf (cut noSlot len slots) (record { message = m } ∷ []))
 
 -- all messages but the first, one place on
-pub lane-take : (len : ℕ) (slots : List Slot) → length slots ≡ 4 → 0 < len → len ≤ 4
+pub lane-take : (len : ℕ) (slots : List Slot) → length slots ≡ upPlaces → 0 < len → len ≤ upPlaces
     → laneOf (record { len = len; slots = slots })
     ≡ messageOf (getD slots 0 noSlot)
     ∷ laneOf (record { len = len - 1; slots = getD slots 1 noSlot ∷ getD slots 2 noSlot ∷ getD slots 3 noSlot ∷ getD slots 3 noSlot ∷ [] })

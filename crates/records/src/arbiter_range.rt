@@ -19,13 +19,10 @@ fn grants_in(granted: [u8; STATIONS], n: usize, k: usize) -> bool
     ensures { λ r. ⌜ r ≡ everyBelow (λ s. leb (getD granted s 0) k) n ⌝ }
 {
     let mut s: usize = 0;
-    while s < n {
-        if k < granted[s] as usize {
-            return false;
-        }
+    while s < n && granted[s] as usize <= k {
         s += 1;
     }
-    true
+    s == n
 }
 
 fn entry_in(e: Entry, n: usize, k: usize) -> bool
@@ -42,14 +39,10 @@ fn line_in(line: [Entry; LINE_PLACES], len: usize, n: usize, k: usize) -> bool
     ensures { λ r. ⌜ r ≡ all (entryIn n k) (cut noEntry len line) ⌝ }
 {
     let mut i: usize = 0;
-    while i < len {
-        let e = line[i];
-        if !entry_in(e, n, k) {
-            return false;
-        }
+    while i < len && entry_in(line[i], n, k) {
         i += 1;
     }
-    true
+    i == len
 }
 
 pub(crate) fn arbiter_in(a: Arbiter, n: usize, k: usize) -> bool
@@ -73,12 +66,8 @@ pub(crate) fn arbiters_in(arbiters: [Arbiter; STATIONS], n: usize, k: usize) -> 
     ensures { λ r. ⌜ r ≡ everyBelow (λ j. arbiterIn n k (arbitersOf n arbiters j)) n ⌝ }
 {
     let mut j: usize = 0;
-    while j < n {
-        let a = arbiters[j];
-        if !arbiter_in(a, n, k) {
-            return false;
-        }
+    while j < n && arbiter_in(arbiters[j], n, k) {
         j += 1;
     }
-    true
+    j == n
 }

@@ -10,13 +10,15 @@ use crate::DOWN_PLACES;
 use crate::Lane;
 use crate::Lanes;
 use crate::Row;
+use crate::Slot;
 use crate::UP_PLACES;
 use plain::Message;
 
-// Whether a message may stand in a lane of this direction.
-fn message_goes(m: Message, k: usize, upward: bool) -> bool
-    ensures { λ r. ⌜ r ≡ goes upward k m ⌝ }
+// Whether the message of a place may stand in a lane of this direction.
+fn message_goes(slot: Slot, k: usize, upward: bool) -> bool
+    ensures { λ r. ⌜ r ≡ goes upward k (slot .message) ⌝ }
 {
+    let m = slot.message;
     match m {
         Message::Request(h) => {
             if upward {
@@ -49,15 +51,10 @@ fn lane_in(l: Lane, k: usize, upward: bool) -> bool
     }
     let slots = l.slots;
     let mut i: usize = 0;
-    while i < len {
-        let slot = slots[i];
-        let m = slot.message;
-        if !message_goes(m, k, upward) {
-            return false;
-        }
+    while i < len && message_goes(slots[i], k, upward) {
         i += 1;
     }
-    true
+    i == len
 }
 
 fn row_in(w: Row, n: usize, k: usize, upward: bool) -> bool
@@ -66,14 +63,10 @@ fn row_in(w: Row, n: usize, k: usize, upward: bool) -> bool
 {
     let lanes = w.lanes;
     let mut j: usize = 0;
-    while j < n {
-        let lane = lanes[j];
-        if !lane_in(lane, k, upward) {
-            return false;
-        }
+    while j < n && lane_in(lanes[j], k, upward) {
         j += 1;
     }
-    true
+    j == n
 }
 
 fn lanes_in(t: Lanes, n: usize, k: usize, upward: bool) -> bool
@@ -82,14 +75,10 @@ fn lanes_in(t: Lanes, n: usize, k: usize, upward: bool) -> bool
 {
     let rows = t.rows;
     let mut s: usize = 0;
-    while s < n {
-        let row = rows[s];
-        if !row_in(row, n, k, upward) {
-            return false;
-        }
+    while s < n && row_in(rows[s], n, k, upward) {
         s += 1;
     }
-    true
+    s == n
 }
 
 pub(crate) fn both_in(up: Lanes, down: Lanes, n: usize, k: usize) -> bool

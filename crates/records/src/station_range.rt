@@ -23,9 +23,10 @@ fn wish_in(quorum: u8, units: u8, k: usize, quorums: usize) -> bool
     quorum::limits::up_to(k, units as usize)
 }
 
-fn phase_in(p: Phase, n: usize, k: usize, quorums: usize) -> bool
-    ensures { λ r. ⌜ ((table : List ℕ) → length table ≡ quorums → r ≡ phaseIn n k table p) ⌝ }
+fn phase_in(station: Station, n: usize, k: usize, quorums: usize) -> bool
+    ensures { λ r. ⌜ ((table : List ℕ) → length table ≡ quorums → r ≡ phaseIn n k table (station .phase)) ⌝ }
 {
+    let p = station.phase;
     match p {
         Phase::Idle => true,
         Phase::Collecting {
@@ -47,13 +48,8 @@ pub(crate) fn stations_in(stations: [Station; STATIONS], n: usize, k: usize, quo
     ensures { λ r. ⌜ ((table : List ℕ) → length table ≡ quorums → r ≡ everyBelow (λ s. phaseIn n k table (phasesOf n stations s)) n) ⌝ }
 {
     let mut s: usize = 0;
-    while s < n {
-        let station = stations[s];
-        let p = station.phase;
-        if !phase_in(p, n, k, quorums) {
-            return false;
-        }
+    while s < n && phase_in(stations[s], n, k, quorums) {
         s += 1;
     }
-    true
+    s == n
 }

@@ -1,31 +1,151 @@
--- `calls::request` meets its contract. 19 first.
+-- `calls::request` meets its contract. 19 and 8 to 11 in their order, then the lowest member is asked.
 -- Assumes nothing.
-use mathlib.Core.Path.{sym, _∙_}
+use mathlib.Core.Bool.{true, false, not}
+use mathlib.Core.Path.{_≡_, refl, sym, ap, _∙_}
+use Prim.Native.Nat.{_≤_, _<_}
+use native.Mathlib.Omega.{arith}
+use lib.ListN.{length, getD, take}
 use borrow.Author.Needs.{needs}
-use borrow.Author.Tests.{not-true, not-false}
-use Rattle.calls.proofs.RecordInRange.{ready}
-use Rattle.calls.proofs.Refusing.{request-19}
+use borrow.Author.Tests.{not-false, le-leb, lt-leb}
+use Rattle.lists.proofs.Broken.{Kept}
+use Rattle.quorum.specs.Limits.{mostStations, mostUnits, mostQuorums, upTo}
+use Rattle.quorum.proofs.Promises.{up-to}
+use Rattle.plain.specs.InRange.{inRange}
+use Rattle.plain.specs.Inner.Passed.{Requests}
+use Rattle.plain.specs.Request.{isIdle, requestTests}
+use Rattle.plain.specs.declared.Phase.{Phase}
+use Rattle.plain.proofs.Passed.{is-idle, request-refused}
+use Rattle.records.specs.View.{noStation, view}
+use Rattle.records.specs.declared.Record.{Record}
+use Rattle.records.proofs.Viewing.{phases-at}
+use Rattle.calls.specs.Inner.Parts.{askAnswer}
+use Rattle.calls.proofs.AskingMember.{request-asks, lowest-is, lowest-station}
+use Rattle.calls.proofs.RecordInRange.{few, quorums-few, limits, table-length}
 use Rattle.calls.proofs.request.Statement.{statement}
 use Rattle.calls.proofs.request.Tie as tie
 
-in-range-requires : tie.Need-in-range-requires
-in-range-requires c κs = search needs
-
-refuse-requires : tie.Need-refuse-requires
-refuse-requires c κs = search needs
-
 returns : tie.Need-returns
-returns c =
-    let i = c .before .before in
-    (c .refuse .ensures .0 ∙ sym (request-19 _ _ _ _ (sym (i .in-range .ensures) ∙ not-true _ (c .before .if1 .taken))), λ z. c .refuse .ensures .1)
+returns c = (c .refuse .ensures .0 ∙ sym (request-refused _ _ _ _ 0 (tt, ap not (sym (c .before .before .in-range .ensures)) ∙ c .before .if1 .taken) refl), λ z. c .refuse .ensures .1)
 
-request-in-range-requires : tie.Need-request-in-range-requires
-request-in-range-requires c κs = ready (c .before .before .args .r) (sym (c .before .in-range .ensures) ∙ not-false _ (c .if1 .left))
+in-range : (c : tie.Else1) → not (inRange (view (c .before .before .args .t1))) ≡ false
+in-range c = ap not (sym (c .before .in-range .ensures)) ∙ c .if1 .left
 
 returns-2 : tie.Need-returns-2
-returns-2 c = (c .request-in-range .ensures .0, c .request-in-range .ensures .1)
+unfolding view
+returns-2 c = (c .refuse2 .ensures .0 ∙ sym (request-refused _ _ _ _ 1 ((in-range (c .before .before), tt), le-leb _ _ (c .before .if2 .taken)) refl), λ z. c .refuse2 .ensures .1)
+
+-- 19 and 8 are passed
+module _ (c : tie.Else2) where
+  abbrev start : tie.Start
+  start = c .before .before .before
+
+  abbrev r : Record
+  r = start .args .t1
+
+  range : inRange (view r) ≡ true
+  range = not-false _ (in-range (c .before))
+
+  below : start .args .s < mostStations
+  below = omega (arith, c .if2 .left, few r range)
+
+  kept : Kept (take 2 (requestTests (view r) (start .args .s) (start .args .q) (start .args .h)))
+  unfolding view
+  kept = (in-range (c .before), (lt-leb _ _ (c .if2 .left), tt))
+
+returns-3 : tie.Need-returns-3
+returns-3 c =
+    let e = c .before .before in
+    let st = start e in
+    (c .refuse3 .ensures .0 ∙ sym (request-refused _ _ _ _ 2 (kept e, le-leb (length (view (st .args .t1) .table)) (st .args .q) (omega (arith, table-length (st .args .t1), c .before .if3 .taken))) refl), λ z. c .refuse3 .ensures .1)
+
+-- and 9
+module _ (c : tie.Else3) where
+  exists : start (c .before) .args .q < length (view (r (c .before)) .table)
+  exists = omega (arith, table-length (r (c .before)), c .if3 .left)
+
+  kept-9 : Kept (take 3 (requestTests (view (r (c .before))) (start (c .before) .args .s) (start (c .before) .args .q) (start (c .before) .args .h)))
+  kept-9 = (kept (c .before) .0, (kept (c .before) .1 .0, (lt-leb _ _ exists, tt)))
+
+returns-4 : tie.Need-returns-4
+unfolding view
+returns-4 c =
+    let u = c .before .before in
+    let k = kept-9 (u .before) in
+    (c .refuse4 .ensures .0 ∙ sym (request-refused _ _ _ _ 3 (k, ap not (sym (u .up-to .ensures)) ∙ c .before .if4 .taken) refl), λ z. c .refuse4 .ensures .1)
+
+-- and 10
+module _ (c : tie.Else4) where
+  abbrev others : tie.Else2
+  others = c .before .before .before
+
+  units : not (upTo (r others .stock) (start others .args .h)) ≡ false
+  units = ap not (sym (c .before .up-to .ensures)) ∙ c .if4 .left
+
+  abbrev phase : Phase
+  phase = getD (r others .stations) (start others .args .s) noStation .phase
+
+  phase-is : view (r others) .phase (start others .args .s) ≡ phase
+  unfolding view
+  phase-is = phases-at (r others .n) (r others .stations) (start others .args .s) (others .if2 .left)
+
+returns-5 : tie.Need-returns-5
+unfolding view
+returns-5 c =
+    let i = c .before .before in
+    let f = i .before .before in
+    let k = kept-9 (f .before .before) in (
+      c .refuse5 .ensures .0
+          ∙ sym (request-refused _ _ _ _ 4 ((k .0, (k .1 .0, (k .1 .1 .0, (units f, tt)))), ap (λ (p : Phase). not (isIdle p)) (phase-is f) ∙ ap not (sym (i .is-idle .ensures)) ∙ c .before .if5 .taken) refl),
+      λ z. c .refuse5 .ensures .1,
+    )
+
+-- all but the room in the lane is passed
+module _ (c : tie.Else5) where
+  abbrev before : tie.Else4
+  before = c .before .before .before
+
+  abbrev args : tie.Start
+  args = start (others before)
+
+  passed : Requests (view (args .args .t1)) (args .args .s) (args .args .q) (args .args .h)
+  unfolding view
+  passed =
+      record {
+        range = range (others before);
+        station = others before .if2 .left;
+        quorum = exists (before .before .before);
+        units = not-false _ (units before);
+        idle = is-idle _ (ap (λ (p : Phase). not (isIdle p)) (phase-is before) ∙ ap not (sym (c .before .is-idle .ensures)) ∙ c .if5 .left);
+      }
+
+  few-quorums : args .args .q < mostQuorums
+  few-quorums = omega (arith, before .before .before .if3 .left, quorums-few (args .args .t1) (range (others before)))
+
+  few-units : args .args .h ≤ mostUnits
+  few-units = omega (arith, up-to (args .args .t1 .stock) (args .args .h) (units before) .1, limits (args .args .t1) (range (others before)) .stock .1)
+
+module _ (c : tie.After-lowest-from) where
+  abbrev all : tie.Else5
+  all = c .before .before
+
+  station : c .lowest-from .result < args all .args .t1 .n
+  station = omega (arith, c .lowest-from .ensures, lowest-station (args all .args .t1) (args all .args .s) (args all .args .q) (args all .args .h) (passed all))
+
+returns-6 : tie.Need-returns-6
+returns-6 c =
+    let l = c .before in
+    let st = args (all l) in
+    let r = st .args .t1 in (
+      c .ask .ensures .0 ∙ sym (request-asks (view r) (st .args .s) (st .args .q) (st .args .h) (passed (all l)) ∙ ap (askAnswer (view r) (st .args .s) (st .args .q) (st .args .h)) (lowest-is r (st .args .s) (st .args .q) (st .args .h) (passed (all l)) ∙ sym (l .lowest-from .ensures))),
+      c .ask .ensures .1,
+    )
 
 pub request-spec : {M : Type 1} → statement M
 request-spec =
     tie.close
-    (tie.spec in-range-requires refuse-requires returns request-in-range-requires returns-2)
+    (tie.spec (λ c. search needs) (λ c. search needs) returns (λ c. search needs) (λ c. search needs) returns-2 (λ c. search needs) (λ c. search needs) returns-3
+    (λ c. search needs) (λ c. search needs) (λ c. search needs) returns-4
+    (λ c. omega (arith, below (others c))) (λ c. omega (arith, below (others c))) (λ c. search needs) (λ c. search needs) returns-5
+    (λ c. omega (arith, few-quorums c)) (λ c. omega (arith, few-quorums c)) (λ c. search needs)
+    (λ c. omega (arith, few-quorums (all c))) (λ c. omega (arith, few-units (all c))) (λ c. omega (arith, station c, few (args (all c) .args .t1) (range (others (before (all c))))))
+    (λ c κs. (few (args (all c) .args .t1) (range (others (before (all c)))), others (before (all c)) .if2 .left, station c)) returns-6)

@@ -1,33 +1,44 @@
--- `calls::up` meets its contract. 19 first.
+-- `calls::up` meets its contract. 19 first, then the lane's refusals, then what the message makes of the record.
 -- Assumes nothing.
-use mathlib.Core.Path.{sym, _∙_}
+use mathlib.Core.Bool.{true, not}
+use mathlib.Core.Path.{_≡_, refl, sym, ap, _∙_}
+use native.Mathlib.Omega.{arith}
 use borrow.Author.Needs.{needs}
-use borrow.Author.Tests.{not-true, not-false}
-use Rattle.calls.proofs.RecordInRange.{ready}
-use Rattle.calls.proofs.Refusing.{up-delivery, delivery-19}
+use borrow.Author.Tests.{not-false}
+use Rattle.plain.specs.InRange.{inRange}
+use Rattle.plain.proofs.Passed.{up-refused}
+use Rattle.records.specs.View.{view}
+use Rattle.calls.proofs.RecordInRange.{few, up-short}
+use Rattle.calls.proofs.TakingMessage.{up-turned}
 use Rattle.calls.proofs.up.Statement.{statement}
 use Rattle.calls.proofs.up.Tie as tie
 
-in-range-requires : tie.Need-in-range-requires
-in-range-requires c κs = search needs
-
-refuse-requires : tie.Need-refuse-requires
-refuse-requires c κs = search needs
-
 returns : tie.Need-returns
-returns c =
-    let i = c .before .before in
-    let st = i .before in (
-      c .refuse .ensures .0 ∙ sym (up-delivery _ _ _ ∙ delivery-19 _ _ _ _ _ _ _ _ (sym (i .in-range .ensures) ∙ not-true _ (c .before .if1 .taken))),
-      λ z. c .refuse .ensures .1,
-    )
+returns c = (c .refuse .ensures .0 ∙ sym (up-refused _ _ _ 0 (tt, ap not (sym (c .before .before .in-range .ensures)) ∙ c .before .if1 .taken) refl), λ z. c .refuse .ensures .1)
 
-up-in-range-requires : tie.Need-up-in-range-requires
-up-in-range-requires c κs = ready (c .before .before .args .r) (sym (c .before .in-range .ensures) ∙ not-false _ (c .if1 .left))
+range : (c : tie.Else1) → inRange (view (c .before .before .args .r)) ≡ true
+range c = sym (c .before .in-range .ensures) ∙ not-false _ (c .if1 .left)
+
+take-oldest-requires : tie.Need-take-oldest-requires
+take-oldest-requires c κs =
+    let e = c .before .before in
+    let r = e .before .before .args .r in
+    (few r (range e), λ s j p q. omega (arith, up-short r (range e) s j p q))
 
 returns-2 : tie.Need-returns-2
-returns-2 c = (c .up-in-range .ensures .0, c .up-in-range .ensures .1)
+unfolding view
+returns-2 c =
+    let t = c .before .before .before in
+    (c .refuse2 .ensures .0 ∙ sym (up-turned _ _ _ _ (range (t .before .before .before)) (c .before .if2 .taken) (t .take-oldest .ensures .0)), λ z. c .refuse2 .ensures .1)
+
+deliver-up-requires : tie.Need-deliver-up-requires
+unfolding view
+deliver-up-requires c κs =
+    let t = c .before .before .before in
+    let e = t .before .before .before in
+    record { range = range e; few = few (e .before .before .args .r) (range e); took = t .take-oldest .ensures .1 (c .before .if2 .left) }
 
 pub up-spec : {M : Type 1} → statement M
 up-spec =
-    tie.close (tie.spec in-range-requires refuse-requires returns up-in-range-requires returns-2)
+    tie.close
+    (tie.spec (λ c. search needs) (λ c. search needs) returns (λ c. search needs) take-oldest-requires (λ c. search needs) returns-2 deliver-up-requires (λ c. search needs))

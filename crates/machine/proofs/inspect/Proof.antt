@@ -12,15 +12,6 @@ use Rattle.machine.proofs.OpeningRecord.{opening-refused, opening-fresh
 use Rattle.machine.proofs.inspect.Statement.{statement}
 use Rattle.machine.proofs.inspect.Tie as tie
 
-check-requires : tie.Need-check-requires
-check-requires c κs = search needs
-
-blank-requires : tie.Need-blank-requires
-blank-requires c κs = search needs
-
-same-length : tie.Need-same-length
-same-length c = search needs
-
 module _ (c : tie.After-check) where
   abbrev start : tie.Start
   start = c .before .before .before .before
@@ -49,9 +40,6 @@ fresh-requires c κs =
     let kept = limits-kept (st .args .n) (st .args .k) (table a) (passed (st .args .n) (st .args .k) (table a) (room a) (sym (refused a) ∙ c .if1 .left) .0 .limits) in
     (kept .stations .1, kept .stock .1, kept .quorums .1)
 
-same-length-2 : tie.Need-same-length-2
-same-length-2 c = search needs
-
 returns-2 : tie.Need-returns-2
 returns-2 c =
     let a = c .before .before .before .before .before in
@@ -62,10 +50,4 @@ pub inspect-spec : {M : Type 1} → statement M
 inspect-spec =
     tie.close
     (tie.spec
-    check-requires
-    blank-requires
-    same-length
-    returns
-    fresh-requires
-    same-length-2
-    returns-2)
+    (λ c. search needs) (λ c. search needs) (λ c. search needs) returns fresh-requires (λ c. search needs) returns-2)

@@ -10,12 +10,6 @@ use Rattle.machine.proofs.OpeningRecord.{opening-both}
 use Rattle.machine.proofs.open.Statement.{statement}
 use Rattle.machine.proofs.open.Tie as tie
 
-inspect-requires : tie.Need-inspect-requires
-inspect-requires c κs = search needs
-
-same-length : tie.Need-same-length
-same-length c = search needs
-
 returns : tie.Need-returns
 unfolding said answer
 returns c =
@@ -27,4 +21,7 @@ returns c =
     (opening-both (st .args .n) (st .args .k) table room _ refused (i .inspect .ensures .1 .0), i .inspect .ensures .1 .1)
 
 pub open-spec : {M : Type 1} → statement M
-open-spec = tie.close (tie.spec inspect-requires same-length returns)
+open-spec =
+    tie.close
+    (tie.spec
+    (λ c. search needs) (λ c. search needs) returns)

@@ -10,9 +10,6 @@ use Rattle.machine.proofs.PerformingList.{refusal-15, refusal-16, enoug
 use Rattle.machine.proofs.perform.Statement.{statement}
 use Rattle.machine.proofs.perform.Tie as tie
 
-all-formed-requires : tie.Need-all-formed-requires
-all-formed-requires c κs = search needs
-
 returns : tie.Need-returns
 returns c =
     let a = c .before in
@@ -39,9 +36,6 @@ run-requires c κs =
     let form = sym (a .all-formed .ensures) ∙ not-false _ (e .if1 .left) in
     (form, enough (st .args .calls .now) (length (st .args .answers .now)) form (f .if2 .left))
 
-same-length : tie.Need-same-length
-same-length c = search needs
-
 returns-3 : tie.Need-returns-3
 returns-3 c =
     let w = c .before .before in
@@ -56,4 +50,6 @@ returns-3 c =
 
 pub perform-spec : {M : Type 1} → statement M
 perform-spec =
-    tie.close (tie.spec all-formed-requires returns returns-2 run-requires same-length returns-3)
+    tie.close
+    (tie.spec
+    (λ c. search needs) returns returns-2 run-requires (λ c. search needs) returns-3)

@@ -15,22 +15,6 @@ use Rattle.records.specs.declared.Record.{Record}
 use Rattle.records.proofs.in_range.Statement.{statement}
 use Rattle.records.proofs.in_range.Tie as tie
 
-cast-n : tie.Need-cast-n
-cast-n c = search needs
-
-cast-k : tie.Need-cast-k
-cast-k c = search needs
-
-cast-quorums : tie.Need-cast-quorums
-cast-quorums c = search needs
-
-limits-kept-requires : tie.Need-limits-kept-requires
-limits-kept-requires c κs = search needs
-
-returns : tie.Need-returns
-unfolding inRange view
-returns c = rw (sym (c .before .limits-kept .ensures) ∙ not-true _ (c .if1 .taken))
-
 few : (r : Record) → eqb (brokenLimit (r .n) (r .stock) (tableOf r)) 0 ≡ true → r .n ≤ mostStations
 few r e = limits-kept (r .n) (r .stock) (tableOf r) (eqb-true (brokenLimit (r .n) (r .stock) (tableOf r)) 0 e) .stations .1
 
@@ -42,8 +26,9 @@ given c = c .before .before .before .before .before .before .args .r
 kept : (c : tie.Else1) → eqb (brokenLimit (given c .n) (given c .stock) (tableOf (given c))) 0 ≡ true
 kept c = sym (c .before .limits-kept .ensures) ∙ not-false _ (c .if1 .left)
 
-stations-in-requires : tie.Need-stations-in-requires
-stations-in-requires c κs = few (given (c .before)) (kept (c .before))
+returns : tie.Need-returns
+unfolding inRange view
+returns c = rw (sym (c .before .limits-kept .ensures) ∙ not-true _ (c .if1 .taken))
 
 returns-2 : tie.Need-returns-2
 unfolding inRange view
@@ -76,14 +61,6 @@ pub in-range-spec : {M : Type 1} → statement M
 in-range-spec =
     tie.close
     (tie.spec
-    cast-n
-    cast-k
-    cast-quorums
-    limits-kept-requires
-    returns
-    stations-in-requires
-    returns-2
-    arbiters-in-requires
-    returns-3
-    both-in-requires
-    returns-4)
+    (λ c. search needs) (λ c. search needs) (λ c. search needs) (λ c. search needs) returns
+    (λ c κs. few (given (c .before)) (kept (c .before)))
+    returns-2 arbiters-in-requires returns-3 both-in-requires returns-4)

@@ -10,38 +10,11 @@ use Rattle.arbiters.proofs.ArrivingMessage.{request-passes, request-roo
 use Rattle.arbiters.proofs.delivery.arrive.Statement.{statement}
 use Rattle.arbiters.proofs.delivery.arrive.Tie as tie
 
-enum-known-m : tie.Need-enum-known-m
-enum-known-m c = search needs
-
-cast-at : tie.Need-cast-at
-cast-at c = search needs
-
 returns : tie.Need-returns
 returns c =
     let st = c .before .before .before .before in
     let m = c .before .before .m .given in
     (λ n. rw (m .1) (sym (request-passes n (st .args .s) (m .0 .0) (st .args .a) (c .if1 .taken))), λ z n p. absurd (true≢false z))
-
-cast-next : tie.Need-cast-next
-cast-next c = search needs
-
-mul-e : tie.Need-mul-e
-mul-e c = search needs
-
-element-set-from-e : tie.Need-element-set-from-e
-element-set-from-e c = search needs
-
-add-next : tie.Need-add-next
-add-next c = search needs
-
-enum-told : tie.Need-enum-told
-enum-told c = search needs
-
-element-write-next : tie.Need-element-write-next
-element-write-next c = search needs
-
-enum-told-2 : tie.Need-enum-told-2
-enum-told-2 c = search needs
 
 returns-2 : tie.Need-returns-2
 returns-2 c =
@@ -72,16 +45,5 @@ pub arrive-spec : {M : Type 1} → statement M
 arrive-spec =
     tie.close
     (tie.spec
-    enum-known-m
-    cast-at
-    returns
-    cast-next
-    mul-e
-    element-set-from-e
-    add-next
-    enum-told
-    element-write-next
-    enum-told-2
-    returns-2
-    returns-3
-    returns-4)
+    (λ c. search needs) (λ c. search needs) returns (λ c. search needs) (λ c. search needs) (λ c. search needs) (λ c. search needs) (λ c. search needs) (λ c. search needs)
+    (λ c. search needs) returns-2 returns-3 returns-4)

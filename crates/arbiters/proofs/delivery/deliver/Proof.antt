@@ -1,43 +1,34 @@
 -- `arbiters::delivery::deliver` meets its contract. Refusals in their order; then the message arrives, and the line can be served.
 -- Assumes nothing.
-use mathlib.Core.Bool.{true, false}
+use mathlib.Core.Bool.{true, false, not}
 use mathlib.Core.List.{List}
-use mathlib.Core.Path.{_≡_, sym, ap, ap₂, _∙_}
+use mathlib.Core.Path.{_≡_, refl, sym, ap, ap₂, _∙_}
 use Prim.Native.Nat.{_<_}
 use native.Mathlib.Omega.{arith}
 use borrow.Author.Needs.{needs}
-use borrow.Author.Tests.{not-true, not-false}
+use borrow.Author.Tests.{le-leb, not-false}
 use Rattle.plain.specs.Arbiter.{arrived, served}
 use Rattle.plain.specs.Lanes.{linePlaces, passes}
 use Rattle.plain.specs.State.{Arbiter as PlainArbiter}
 use Rattle.plain.specs.declared.Entry.{Entry}
 use Rattle.records.specs.View.{arbiterOf}
 use Rattle.arbiters.specs.Telling.{servable, toldOf}
-use Rattle.arbiters.proofs.TellingArbiter.{servable-serves, arrived-servable, telling-19, telling-8, telling-14, telling-done}
+use Rattle.arbiters.proofs.TellingArbiter.{servable-serves, arrived-servable, telling-refused, telling-full, telling-done}
 use Rattle.arbiters.proofs.delivery.deliver.Statement.{statement}
 use Rattle.arbiters.proofs.delivery.deliver.Tie as tie
-
-is-servable-requires : tie.Need-is-servable-requires
-is-servable-requires c κs = search needs
-
-refuse-requires : tie.Need-refuse-requires
-refuse-requires c κs = search needs
 
 returns : tie.Need-returns
 returns c =
     let i = c .before .before in
-    (c .refuse .ensures .0 (i .before .args .n) ∙ sym (telling-19 _ _ _ _ _ (sym (i .is-servable .ensures) ∙ not-true _ (c .before .if1 .taken))), λ z. c .refuse .ensures .1)
+    (c .refuse .ensures .0 (i .before .args .n) ∙ sym (telling-refused _ _ _ _ _ 0 (tt, ap not (sym (i .is-servable .ensures)) ∙ c .before .if1 .taken) refl), λ z. c .refuse .ensures .1)
 
 fit : (c : tie.Else1) → servable (c .before .before .args .n) (arbiterOf (c .before .before .args .n) (c .before .before .args .a)) ≡ true
 fit c = sym (c .before .is-servable .ensures) ∙ not-false _ (c .if1 .left)
 
-refuse-requires-2 : tie.Need-refuse-requires-2
-refuse-requires-2 c κs = search needs
-
 returns-2 : tie.Need-returns-2
 returns-2 c =
     let f = c .before .before in
-    (c .refuse2 .ensures .0 (f .before .before .args .n) ∙ sym (telling-8 _ _ _ _ _ (fit f) (c .before .if2 .taken)), λ z. c .refuse2 .ensures .1)
+    (c .refuse2 .ensures .0 (f .before .before .args .n) ∙ sym (telling-refused _ _ _ _ _ 1 ((ap not (fit f), tt), le-leb _ _ (c .before .if2 .taken)) refl), λ z. c .refuse2 .ensures .1)
 
 arrive-requires : tie.Need-arrive-requires
 arrive-requires c κs =
@@ -45,15 +36,12 @@ arrive-requires c κs =
     let serves = servable-serves (st .args .n) (st .args .a) (fit (c .before)) in
     (omega (arith, serves .few), serves .short)
 
-refuse-requires-3 : tie.Need-refuse-requires-3
-refuse-requires-3 c κs = search needs
-
 returns-3 : tie.Need-returns-3
 returns-3 c =
     let a = c .before .before in
     let g = a .before in
     let st = g .before .before .before in
-    (c .refuse3 .ensures .0 (st .args .n) ∙ sym (telling-14 _ _ _ _ _ (fit (g .before)) (g .if2 .left) (sym (a .arrive .ensures .0 (st .args .n)) ∙ c .before .if3 .taken)), λ z. c .refuse3 .ensures .1)
+    (c .refuse3 .ensures .0 (st .args .n) ∙ sym (telling-full _ _ _ _ _ (fit (g .before)) (g .if2 .left) (sym (a .arrive .ensures .0 (st .args .n)) ∙ c .before .if3 .taken)), λ z. c .refuse3 .ensures .1)
 
 -- the message has arrived
 module _ (c : tie.Else3) where
@@ -99,13 +87,4 @@ pub deliver-spec : {M : Type 1} → statement M
 deliver-spec =
     tie.close
     (tie.spec
-    is-servable-requires
-    refuse-requires
-    returns
-    refuse-requires-2
-    returns-2
-    arrive-requires
-    refuse-requires-3
-    returns-3
-    serve-requires
-    returns-4)
+    (λ c. search needs) (λ c. search needs) returns (λ c. search needs) returns-2 arrive-requires (λ c. search needs) returns-3 serve-requires returns-4)

@@ -11,26 +11,20 @@ use Rattle.plain.specs.State.{Arbiter}
 use Rattle.records.specs.View.{arbiterOf}
 use Rattle.arbiters.specs.Lent.{lentOf, grantedSet}
 use Rattle.arbiters.specs.Telling.{servable}
-use Rattle.arbiters.proofs.LendingArbiter.{delivering-14, delivering-done}
+use Rattle.arbiters.proofs.LendingArbiter.{delivering-full, delivering-done}
 use Rattle.arbiters.proofs.TellingArbiter.{in-range-servable, Told, told-full, told-done}
 use Rattle.arbiters.proofs.lending.deliver_lent.Statement.{statement}
 use Rattle.arbiters.proofs.lending.deliver_lent.Tie as tie
 
-deliver-requires : tie.Need-deliver-requires
-deliver-requires c κs = search needs
-
 fit : (c : tie.Start) → servable mostStations (arbiterOf mostStations (c .args .a)) ≡ true
 fit c = in-range-servable mostStations (c .args .k) (arbiterOf mostStations (c .args .a)) (omega arith) (c .pre .0)
-
-refuse-lent-requires : tie.Need-refuse-lent-requires
-refuse-lent-requires c κs = search needs
 
 returns : tie.Need-returns
 returns c =
     let d = c .before .before .before in
     let st = d .before in
     let full = told-full mostStations (st .args .k) (st .args .s) (st .args .m) (arbiterOf mostStations (st .args .a)) (fit st) (st .pre .1) (d .deliver .result) (d .deliver .ensures .0) (c .before .if1 .taken) in
-    (c .refuse-lent .ensures .0 ∙ sym (delivering-14 _ _ _ _ full), λ z. c .refuse-lent .ensures .1)
+    (c .refuse-lent .ensures .0 ∙ sym (delivering-full _ _ _ _ full), λ z. c .refuse-lent .ensures .1)
 
 told : (c : tie.Else1) →
     let d = c .before .before in
@@ -56,4 +50,5 @@ returns-2 c =
 pub deliver-lent-spec : {M : Type 1} → statement M
 deliver-lent-spec =
     tie.close
-    (tie.spec deliver-requires refuse-lent-requires returns granted-set-requires returns-2)
+    (tie.spec
+    (λ c. search needs) (λ c. search needs) returns granted-set-requires returns-2)

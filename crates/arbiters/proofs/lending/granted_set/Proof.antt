@@ -24,24 +24,12 @@ loop-holds : tie.Need-loop-holds Inv-loop μ-loop
 unfolding setOf
 loop-holds c = (search needs, refl)
 
-is-granted-requires : tie.Need-is-granted-requires Inv-loop μ-loop
-is-granted-requires c κs = search needs
-
-only-requires : tie.Need-only-requires Inv-loop μ-loop
-only-requires c κs = search needs
-
 add-set : tie.Need-add-set Inv-loop μ-loop
 add-set c =
     let l = c .before .before .before .before .loop in
     let st = c .before .before .before .before .before in
     let f = isGranted (cut noEntry (st .args .grants) (st .args .line)) in
     record { fits = omega (arith, l .inv .1, c .only .ensures, only-below (l .t) (omega (arith, l .inv .0)), set-below f (l .t), pow-mono {i = suc (l .t)} {j = 16} (omega (arith, l .inv .0))) }
-
-add-t : tie.Need-add-t Inv-loop μ-loop
-add-t c = search needs
-
-loop-less : tie.Need-loop-less Inv-loop μ-loop
-loop-less c = search needs
 
 loop-again : tie.Need-loop-again Inv-loop μ-loop
 loop-again c =
@@ -66,13 +54,4 @@ pub granted-set-spec : {M : Type 1} → statement M
 granted-set-spec =
     tie.close
     (tie.spec
-    Inv-loop
-    μ-loop
-    loop-holds
-    is-granted-requires
-    only-requires
-    add-set
-    add-t
-    loop-less
-    loop-again
-    returns)
+    Inv-loop μ-loop loop-holds (λ c. search needs) (λ c. search needs) add-set (λ c. search needs) (λ c. search needs) loop-again returns)

@@ -24,41 +24,14 @@ Inv-loop n k len line granted₀ i₀ granted i =
 abbrev μ-loop : tie.MeasureT-loop
 μ-loop n k len line granted₀ i₀ granted i = len - i
 
-cast-len : tie.Need-cast-len Inv-loop μ-loop
-cast-len c = search needs
-
 loop-holds : tie.Need-loop-holds Inv-loop μ-loop
 loop-holds c = (search needs, search needs, refl)
-
-mul-e : tie.Need-mul-e Inv-loop μ-loop
-mul-e c = search needs
-
-array-copy-out-e : tie.Need-array-copy-out-e Inv-loop μ-loop
-array-copy-out-e c = search needs
-
-wide-requires : tie.Need-wide-requires Inv-loop μ-loop
-wide-requires c κs = search needs
-
-granted-units-requires : tie.Need-granted-units-requires Inv-loop μ-loop
-granted-units-requires c κs = search needs
-
-add-if1 : tie.Need-add-if1 Inv-loop μ-loop
-add-if1 c = search needs
-
-cast-s : tie.Need-cast-s Inv-loop μ-loop
-cast-s c = search needs
 
 array-write-granted : tie.Need-array-write-granted Inv-loop μ-loop
 array-write-granted c =
     let l = c .before .before .before .before .before .before in
     let st = l .before .before .before .before in
     omega (arith, st .pre .named (l .loop .i) (omega arith), st .pre .few)
-
-add-i : tie.Need-add-i Inv-loop μ-loop
-add-i c = search needs
-
-loop-less : tie.Need-loop-less Inv-loop μ-loop
-loop-less c = search needs
 
 loop-again : tie.Need-loop-again Inv-loop μ-loop
 loop-again c =
@@ -68,15 +41,6 @@ loop-again c =
     let few = st .pre .few in
     let step = serve-more (st .args .n) (st .args .k) (st .args .a .len) (st .args .a .line) (l .loop .i) (l .loop .granted) (omega arith) named (omega arith) (omega arith) in
     (search needs, search needs, l .loop .inv .2 ∙ step)
-
-shifted-requires : tie.Need-shifted-requires Inv-loop μ-loop
-shifted-requires c κs = search needs
-
-sub-t24 : tie.Need-sub-t24 Inv-loop μ-loop
-sub-t24 c = search needs
-
-cast-t25 : tie.Need-cast-t25 Inv-loop μ-loop
-cast-t25 c = search needs
 
 -- where the loop is left, by its test or by the break, the rest of the line stays
 module _ (c : tie.Left-loop Inv-loop μ-loop) where
@@ -110,21 +74,5 @@ pub serve-spec : {M : Type 1} → statement M
 serve-spec =
     tie.close
     (tie.spec
-    Inv-loop
-    μ-loop
-    cast-len
-    loop-holds
-    mul-e
-    array-copy-out-e
-    wide-requires
-    granted-units-requires
-    add-if1
-    cast-s
-    array-write-granted
-    add-i
-    loop-less
-    loop-again
-    shifted-requires
-    sub-t24
-    cast-t25
-    returns)
+    Inv-loop μ-loop (λ c. search needs) loop-holds (λ c. search needs) (λ c. search needs) (λ c. search needs) (λ c. search needs) (λ c. search needs) (λ c. search needs)
+    array-write-granted (λ c. search needs) (λ c. search needs) loop-again (λ c. search needs) (λ c. search needs) (λ c. search needs) returns)

@@ -10,20 +10,11 @@ use Rattle.calls.proofs.GoingOnward.{lowest-below, onward-holds, onward
 use Rattle.calls.proofs.downs.onward.Statement.{statement}
 use Rattle.calls.proofs.downs.onward.Tie as tie
 
-add-lowest-from : tie.Need-add-lowest-from
-add-lowest-from c = search needs
-
-lowest-from-requires : tie.Need-lowest-from-requires
-lowest-from-requires c κs = search needs
-
 returns : tie.Need-returns
 returns c =
     let l = c .before in
     let st = l .before in
     (λ table e. sym (onward-holds table (st .args .quorum) (st .args .units) (st .args .j) (st .args .set) e (l .lowest-from .result) (l .lowest-from .ensures) (c .if1 .taken)), refl)
-
-cast-t9 : tie.Need-cast-t9
-cast-t9 c = search needs
 
 returns-2 : tie.Need-returns-2
 returns-2 c =
@@ -37,4 +28,7 @@ returns-2 c =
     )
 
 pub onward-spec : {M : Type 1} → statement M
-onward-spec = tie.close (tie.spec add-lowest-from lowest-from-requires returns cast-t9 returns-2)
+onward-spec =
+    tie.close
+    (tie.spec
+    (λ c. search needs) (λ c. search needs) returns (λ c. search needs) returns-2)

@@ -5,21 +5,11 @@ use Rattle.records.proofs.Viewing.{lanes-at}
 use Rattle.calls.proofs.lanes.lane_at.Statement.{statement}
 use Rattle.calls.proofs.lanes.lane_at.Tie as tie
 
-mul-row : tie.Need-mul-row
-mul-row c = search needs
-
-element-copy-out-row : tie.Need-element-copy-out-row
-element-copy-out-row c = search needs
-
-mul-result : tie.Need-mul-result
-mul-result c = search needs
-
-element-copy-out-result : tie.Need-element-copy-out-result
-element-copy-out-result c = search needs
-
 returns : tie.Need-returns
 returns c = λ n p q. lanes-at n (c .before .before .args .t1) _ _ p q
 
 pub lane-at-spec : {M : Type 1} → statement M
 lane-at-spec =
-    tie.close (tie.spec mul-row element-copy-out-row mul-result element-copy-out-result returns)
+    tie.close
+    (tie.spec
+    (λ c. search needs) (λ c. search needs) (λ c. search needs) (λ c. search needs) returns)

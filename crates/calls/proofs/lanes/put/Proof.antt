@@ -7,22 +7,13 @@ use Rattle.records.proofs.Viewing.{lane-put}
 use Rattle.calls.proofs.lanes.put.Statement.{statement}
 use Rattle.calls.proofs.lanes.put.Tie as tie
 
-cast-at : tie.Need-cast-at
-cast-at c = search needs
-
-mul-slot : tie.Need-mul-slot
-mul-slot c = search needs
-
-element-set-from-slot : tie.Need-element-set-from-slot
-element-set-from-slot c = search needs
-
-add-next : tie.Need-add-next
-add-next c = search needs
-
 returns : tie.Need-returns
 returns c =
     let l = c .args .l in
     lane-put (l .len) (l .slots) _ (slots-of l _ (c .good .0)) (omega arith)
 
 pub put-spec : {M : Type 1} → statement M
-put-spec = tie.close (tie.spec cast-at mul-slot element-set-from-slot add-next returns)
+put-spec =
+    tie.close
+    (tie.spec
+    (λ c. search needs) (λ c. search needs) (λ c. search needs) (λ c. search needs) returns)

@@ -7,16 +7,13 @@ use Rattle.records.proofs.Viewing.{row-with}
 use Rattle.calls.proofs.lanes.row_with.Statement.{statement}
 use Rattle.calls.proofs.lanes.row_with.Tie as tie
 
-mul-l : tie.Need-mul-l
-mul-l c = search needs
-
-element-set-from-l : tie.Need-element-set-from-l
-element-set-from-l c = search needs
-
 returns : tie.Need-returns
 returns c =
     let long = lanes-of (c .args .w) _ (c .good .0) in
     λ n h. row-with n (c .args .w) (c .args .j) (c .args .l) h (omega arith)
 
 pub row-with-spec : {M : Type 1} → statement M
-row-with-spec = tie.close (tie.spec mul-l element-set-from-l returns)
+row-with-spec =
+    tie.close
+    (tie.spec
+    (λ c. search needs) (λ c. search needs) returns)

@@ -7,24 +7,6 @@ use Rattle.records.proofs.Viewing.{lanes-with}
 use Rattle.calls.proofs.lanes.with_lane.Statement.{statement}
 use Rattle.calls.proofs.lanes.with_lane.Tie as tie
 
-mul-row : tie.Need-mul-row
-mul-row c = search needs
-
-element-copy-out-row : tie.Need-element-copy-out-row
-element-copy-out-row c = search needs
-
-mul-l : tie.Need-mul-l
-mul-l c = search needs
-
-element-set-from-l : tie.Need-element-set-from-l
-element-set-from-l c = search needs
-
-mul-t8 : tie.Need-mul-t8
-mul-t8 c = search needs
-
-element-set-from-next : tie.Need-element-set-from-next
-element-set-from-next c = search needs
-
 returns : tie.Need-returns
 returns c =
     let st = c .before in
@@ -36,10 +18,4 @@ pub with-lane-spec : {M : Type 1} → statement M
 with-lane-spec =
     tie.close
     (tie.spec
-    mul-row
-    element-copy-out-row
-    mul-l
-    element-set-from-l
-    mul-t8
-    element-set-from-next
-    returns)
+    (λ c. search needs) (λ c. search needs) (λ c. search needs) (λ c. search needs) (λ c. search needs) (λ c. search needs) returns)

@@ -25,9 +25,6 @@ abbrev μ-loop : tie.MeasureT-loop
 loop-holds : tie.Need-loop-holds Inv-loop μ-loop
 loop-holds c = (search needs, below-none _ _, refl)
 
-release-to-requires : tie.Need-release-to-requires Inv-loop μ-loop
-release-to-requires c κs = search needs
-
 module _ (c : tie.After-release-to Inv-loop μ-loop) where
   abbrev start : tie.Start Inv-loop μ-loop
   start = c .before .before .before
@@ -54,12 +51,6 @@ returns c =
     let st = start a in
     (sym (some-at (releasePasses (st .args .set) (lanes a)) (st .args .n) (station a) (here a) (sym (full a) ∙ c .if1 .taken)), λ z. absurd (true≢false z))
 
-add-j : tie.Need-add-j Inv-loop μ-loop
-add-j c = search needs
-
-loop-less : tie.Need-loop-less Inv-loop μ-loop
-loop-less c = search needs
-
 loop-again : tie.Need-loop-again Inv-loop μ-loop
 loop-again c =
     let e = c .before in
@@ -85,12 +76,4 @@ pub release-row-spec : {M : Type 1} → statement M
 release-row-spec =
     tie.close
     (tie.spec
-    Inv-loop
-    μ-loop
-    loop-holds
-    release-to-requires
-    returns
-    add-j
-    loop-less
-    loop-again
-    returns-2)
+    Inv-loop μ-loop loop-holds (λ c. search needs) returns (λ c. search needs) (λ c. search needs) loop-again returns-2)

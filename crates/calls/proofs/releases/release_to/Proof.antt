@@ -18,9 +18,6 @@ use Rattle.calls.proofs.ReleasingRow.{passes-member, passes-other, othe
 use Rattle.calls.proofs.releases.release_to.Statement.{statement}
 use Rattle.calls.proofs.releases.release_to.Tie as tie
 
-has-requires : tie.Need-has-requires
-has-requires c κs = search needs
-
 returns : tie.Need-returns
 returns c =
     let st = c .before .before in
@@ -28,15 +25,6 @@ returns c =
       λ n h. sym (passes-other (st .args .set) (rowOf n (st .args .t1)) (st .args .j) other),
       λ z n h. other-stays (st .args .set) (rowOf n (st .args .t1)) (st .args .j) other,
     )
-
-mul-lane : tie.Need-mul-lane
-mul-lane c = search needs
-
-element-copy-out-lane : tie.Need-element-copy-out-lane
-element-copy-out-lane c = search needs
-
-cast-if2 : tie.Need-cast-if2
-cast-if2 c = search needs
 
 returns-2 : tie.Need-returns-2
 returns-2 c =
@@ -48,12 +36,6 @@ returns-2 c =
       λ n h. sym (passes-member (st .args .set) (rowOf n w) j belongs ∙ ap (λ (l : List Message). passes upPlaces (sent l Release)) (row-at n w j h) ∙ lane-full upPlaces (getD (w .lanes) j noLane) Release (c .if2 .taken)),
       λ z n h. absurd (true≢false z),
     )
-
-put-requires : tie.Need-put-requires
-put-requires c κs = search needs
-
-row-with-requires : tie.Need-row-with-requires
-row-with-requires c κs = search needs
 
 returns-3 : tie.Need-returns-3
 returns-3 c =
@@ -71,12 +53,4 @@ pub release-to-spec : {M : Type 1} → statement M
 release-to-spec =
     tie.close
     (tie.spec
-    has-requires
-    returns
-    mul-lane
-    element-copy-out-lane
-    cast-if2
-    returns-2
-    put-requires
-    row-with-requires
-    returns-3)
+    (λ c. search needs) returns (λ c. search needs) (λ c. search needs) (λ c. search needs) returns-2 (λ c. search needs) (λ c. search needs) returns-3)

@@ -36,23 +36,11 @@ loop-holds c =
     let e = before-first d (c .args .j) (c .args .t4) in
     (search needs, sym e, λ t h. rw e (c .pre .room t h))
 
-mul-e : tie.Need-mul-e Inv-loop μ-loop
-mul-e c = search needs
-
-array-copy-out-e : tie.Need-array-copy-out-e Inv-loop μ-loop
-array-copy-out-e c = search needs
-
-cast-s : tie.Need-cast-s Inv-loop μ-loop
-cast-s c = search needs
-
 lane-at-requires : tie.Need-lane-at-requires Inv-loop μ-loop
 lane-at-requires c κs =
     let l = c .before .before .before in
     let st = l .before in
     omega (arith, st .pre .named (l .loop .i) (omega arith))
-
-cast-if1 : tie.Need-cast-if1 Inv-loop μ-loop
-cast-if1 c = search needs
 
 module _ (c : tie.After-lane-at Inv-loop μ-loop) where
   abbrev turn : tie.In-loop Inv-loop μ-loop
@@ -85,20 +73,11 @@ returns c =
       λ z. absurd (true≢false z),
     )
 
-put-requires : tie.Need-put-requires Inv-loop μ-loop
-put-requires c κs = search needs
-
 with-lane-requires : tie.Need-with-lane-requires Inv-loop μ-loop
 with-lane-requires c κs =
     let l = c .before .before .before .before .before .before .before in
     let st = l .before in
     omega (arith, st .pre .named (l .loop .i) (omega arith))
-
-add-i : tie.Need-add-i Inv-loop μ-loop
-add-i c = search needs
-
-loop-less : tie.Need-loop-less Inv-loop μ-loop
-loop-less c = search needs
 
 loop-again : tie.Need-loop-again Inv-loop μ-loop
 loop-again c =
@@ -131,18 +110,5 @@ pub send-spec : {M : Type 1} → statement M
 send-spec =
     tie.close
     (tie.spec
-    Inv-loop
-    μ-loop
-    loop-holds
-    mul-e
-    array-copy-out-e
-    cast-s
-    lane-at-requires
-    cast-if1
-    returns
-    put-requires
-    with-lane-requires
-    add-i
-    loop-less
-    loop-again
-    returns-2)
+    Inv-loop μ-loop loop-holds (λ c. search needs) (λ c. search needs) (λ c. search needs) lane-at-requires (λ c. search needs) returns (λ c. search needs)
+    with-lane-requires (λ c. search needs) (λ c. search needs) loop-again returns-2)

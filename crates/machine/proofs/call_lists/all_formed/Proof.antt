@@ -21,36 +21,6 @@ abbrev μ-loop : tie.MeasureT-loop
 loop-holds : tie.Need-loop-holds Inv-loop μ-loop
 loop-holds c = (search needs, refl)
 
-sub-loop : tie.Need-sub-loop Inv-loop μ-loop
-sub-loop c = search needs
-
-mul-is-formed : tie.Need-mul-is-formed Inv-loop μ-loop
-mul-is-formed c = search needs
-
-shared-slice-read-is-formed : tie.Need-shared-slice-read-is-formed Inv-loop μ-loop
-shared-slice-read-is-formed c = search needs
-
-add-is-formed : tie.Need-add-is-formed Inv-loop μ-loop
-add-is-formed c = search needs
-
-mul-is-formed-2 : tie.Need-mul-is-formed-2 Inv-loop μ-loop
-mul-is-formed-2 c = search needs
-
-shared-slice-read-is-formed-2 : tie.Need-shared-slice-read-is-formed-2 Inv-loop μ-loop
-shared-slice-read-is-formed-2 c = search needs
-
-add-is-formed-2 : tie.Need-add-is-formed-2 Inv-loop μ-loop
-add-is-formed-2 c = search needs
-
-mul-is-formed-3 : tie.Need-mul-is-formed-3 Inv-loop μ-loop
-mul-is-formed-3 c = search needs
-
-shared-slice-read-is-formed-3 : tie.Need-shared-slice-read-is-formed-3 Inv-loop μ-loop
-shared-slice-read-is-formed-3 c = search needs
-
-is-formed-requires : tie.Need-is-formed-requires Inv-loop μ-loop
-is-formed-requires c κs = search needs
-
 module _ (c : tie.After-is-formed Inv-loop μ-loop) where
   abbrev turn : tie.At-loop Inv-loop μ-loop
   turn = c .before .before .before .before .before
@@ -70,12 +40,6 @@ module _ (c : tie.After-is-formed Inv-loop μ-loop) where
 returns : tie.Need-returns Inv-loop μ-loop
 returns c = sym (next (c .before) ∙ ap (λ (b : Bool). b && rest (c .before)) (not-true (c .before .is-formed .result) (c .if1 .taken)))
 
-add-i : tie.Need-add-i Inv-loop μ-loop
-add-i c = search needs
-
-loop-less : tie.Need-loop-less Inv-loop μ-loop
-loop-less c = search needs
-
 loop-again : tie.Need-loop-again Inv-loop μ-loop
 loop-again c = (search needs, next (c .before) ∙ ap (λ (b : Bool). b && rest (c .before)) (not-false (c .before .is-formed .result) (c .if1 .left)))
 
@@ -89,21 +53,5 @@ pub all-formed-spec : {M : Type 1} → statement M
 all-formed-spec =
     tie.close
     (tie.spec
-    Inv-loop
-    μ-loop
-    loop-holds
-    sub-loop
-    mul-is-formed
-    shared-slice-read-is-formed
-    add-is-formed
-    mul-is-formed-2
-    shared-slice-read-is-formed-2
-    add-is-formed-2
-    mul-is-formed-3
-    shared-slice-read-is-formed-3
-    is-formed-requires
-    returns
-    add-i
-    loop-less
-    loop-again
-    returns-2)
+    Inv-loop μ-loop loop-holds (λ c. search needs) (λ c. search needs) (λ c. search needs) (λ c. search needs) (λ c. search needs) (λ c. search needs) (λ c. search needs)
+    (λ c. search needs) (λ c. search needs) (λ c. search needs) returns (λ c. search needs) (λ c. search needs) loop-again returns-2)

@@ -8,17 +8,11 @@ use Rattle.machine.proofs.PerformingCalls.{call-request, call-up, call-
 use Rattle.machine.proofs.call_lists.answer_to.Statement.{statement}
 use Rattle.machine.proofs.call_lists.answer_to.Tie as tie
 
-request-requires : tie.Need-request-requires
-request-requires c κs = search needs
-
 returns : tie.Need-returns
 unfolding call
 returns c =
     let st = c .before .before in
     c .request .ensures .0 ∙ sym (ap (call (view (st .args .r))) (call-request _ _ _ _ (c .before .if1 .taken)))
-
-up-requires : tie.Need-up-requires
-up-requires c κs = search needs
 
 returns-2 : tie.Need-returns-2
 unfolding call
@@ -26,17 +20,11 @@ returns-2 c =
     let st = c .before .before .before in
     c .up .ensures .0 ∙ sym (ap (call (view (st .args .r))) (call-up _ _ _ _ (c .before .if2 .taken)))
 
-down-requires : tie.Need-down-requires
-down-requires c κs = search needs
-
 returns-3 : tie.Need-returns-3
 unfolding call
 returns-3 c =
     let st = c .before .before .before .before in
     c .down .ensures .0 ∙ sym (ap (call (view (st .args .r))) (call-down _ _ _ _ (c .before .if3 .taken)))
-
-release-requires : tie.Need-release-requires
-release-requires c κs = search needs
 
 returns-4 : tie.Need-returns-4
 unfolding call
@@ -48,11 +36,4 @@ pub answer-to-spec : {M : Type 1} → statement M
 answer-to-spec =
     tie.close
     (tie.spec
-    request-requires
-    returns
-    up-requires
-    returns-2
-    down-requires
-    returns-3
-    release-requires
-    returns-4)
+    (λ c. search needs) returns (λ c. search needs) returns-2 (λ c. search needs) returns-3 (λ c. search needs) returns-4)

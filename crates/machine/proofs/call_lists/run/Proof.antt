@@ -30,15 +30,6 @@ write-answer-requires c κs =
     let st = l .before .before .before in
     room (st .args .calls .now) (st .args .answers .now) (view (st .args .r)) _ _ _ _ (l .loop .inv) (st .pre .0) (st .pre .1) (omega arith)
 
-add-i : tie.Need-add-i Inv-loop μ-loop
-add-i c = search needs
-
-add-at : tie.Need-add-at Inv-loop μ-loop
-add-at c = search needs
-
-loop-less : tie.Need-loop-less Inv-loop μ-loop
-loop-less c = search needs
-
 loop-again : tie.Need-loop-again Inv-loop μ-loop
 unfolding answerOf
 loop-again c =
@@ -66,14 +57,4 @@ pub run-spec : {M : Type 1} → statement M
 run-spec =
     tie.close
     (tie.spec
-    Inv-loop
-    μ-loop
-    loop-holds
-    answer-at-requires
-    write-answer-requires
-    add-i
-    add-at
-    loop-less
-    loop-again
-    same-length
-    returns)
+    Inv-loop μ-loop loop-holds answer-at-requires write-answer-requires (λ c. search needs) (λ c. search needs) (λ c. search needs) loop-again same-length returns)

@@ -8,34 +8,13 @@ use borrow.Author.Needs.{needs}
 use Rattle.machine.proofs.call_lists.write_answer.Statement.{statement}
 use Rattle.machine.proofs.call_lists.write_answer.Tie as tie
 
-mul-answers : tie.Need-mul-answers
-mul-answers c = search needs
-
-slice-write-answers : tie.Need-slice-write-answers
-slice-write-answers c = search needs
-
-add-answers : tie.Need-add-answers
-add-answers c = search needs
-
-mul-answers-2 : tie.Need-mul-answers-2
-mul-answers-2 c = search needs
-
 slice-write-answers-2 : tie.Need-slice-write-answers-2
 slice-write-answers-2 c = omega (arith, length-set (c .args .answers .now) (c .args .at) (c .args .refusal))
-
-add-answers-2 : tie.Need-add-answers-2
-add-answers-2 c = search needs
-
-mul-answers-3 : tie.Need-mul-answers-3
-mul-answers-3 c = search needs
 
 slice-write-answers-3 : tie.Need-slice-write-answers-3
 slice-write-answers-3 c =
     let first = set (c .args .answers .now) (c .args .at) (c .args .refusal) in
     omega (arith, length-set (c .args .answers .now) (c .args .at) (c .args .refusal), length-set first (c .args .at + 1) (c .args .entered))
-
-same-length : tie.Need-same-length
-same-length c = search needs
 
 returns : tie.Need-returns
 returns c = refl
@@ -44,13 +23,5 @@ pub write-answer-spec : {M : Type 1} → statement M
 write-answer-spec =
     tie.close
     (tie.spec
-    mul-answers
-    slice-write-answers
-    add-answers
-    mul-answers-2
-    slice-write-answers-2
-    add-answers-2
-    mul-answers-3
-    slice-write-answers-3
-    same-length
-    returns)
+    (λ c. search needs) (λ c. search needs) (λ c. search needs) (λ c. search needs) slice-write-answers-2 (λ c. search needs) (λ c. search needs) slice-write-answers-3
+    (λ c. search needs) returns)

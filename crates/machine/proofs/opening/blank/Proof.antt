@@ -5,13 +5,13 @@ use Rattle.machine.proofs.OpeningRecord.{blank-fresh}
 use Rattle.machine.proofs.opening.blank.Statement.{statement}
 use Rattle.machine.proofs.opening.blank.Tie as tie
 
-empty-lanes-requires : tie.Need-empty-lanes-requires
-empty-lanes-requires c κs = search needs
-
 returns : tie.Need-returns
 returns c =
     let st = c .before in
     blank-fresh (st .args .n) (st .args .stock) (st .args .quorums) (st .args .table) 12 _ (c .empty-lanes .result) (c .empty-lanes .ensures (st .args .n))
 
 pub blank-spec : {M : Type 1} → statement M
-blank-spec = tie.close (tie.spec empty-lanes-requires returns)
+blank-spec =
+    tie.close
+    (tie.spec
+    (λ c. search needs) returns)

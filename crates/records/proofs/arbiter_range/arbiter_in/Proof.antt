@@ -7,22 +7,10 @@ use Rattle.records.proofs.Ranging.{arbiter-long, arbiter-grants, arbite
 use Rattle.records.proofs.arbiter_range.arbiter_in.Statement.{statement}
 use Rattle.records.proofs.arbiter_range.arbiter_in.Tie as tie
 
-cast-len : tie.Need-cast-len
-cast-len c = search needs
-
-returns : tie.Need-returns
-returns c = sym (arbiter-long _ _ (c .before .before .args .a) (c .if1 .taken))
-
-grants-in-requires : tie.Need-grants-in-requires
-grants-in-requires c κs = search needs
-
 returns-2 : tie.Need-returns-2
 returns-2 c =
     let st = c .before .before .before .before .before in
     sym (arbiter-grants _ _ (st .args .a) (sym (c .before .grants-in .ensures) ∙ not-true _ (c .if2 .taken)))
-
-line-in-requires : tie.Need-line-in-requires
-line-in-requires c κs = search needs
 
 returns-3 : tie.Need-returns-3
 returns-3 c =
@@ -32,4 +20,8 @@ returns-3 c =
 
 pub arbiter-in-spec : {M : Type 1} → statement M
 arbiter-in-spec =
-    tie.close (tie.spec cast-len returns grants-in-requires returns-2 line-in-requires returns-3)
+    tie.close
+    (tie.spec
+    (λ c. search needs)
+    (λ c. sym (arbiter-long _ _ (c .before .before .args .a) (c .if1 .taken)))
+    (λ c. search needs) returns-2 (λ c. search needs) returns-3)

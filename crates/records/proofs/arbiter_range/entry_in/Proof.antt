@@ -6,22 +6,16 @@ use Rattle.plain.specs.InRange.{entryIn}
 use Rattle.records.proofs.arbiter_range.entry_in.Statement.{statement}
 use Rattle.records.proofs.arbiter_range.entry_in.Tie as tie
 
-cast-if1 : tie.Need-cast-if1
-cast-if1 c = search needs
-
 returns : tie.Need-returns
 unfolding entryIn
 returns c = rw (le-ltb _ _ (c .if1 .taken))
-
-cast-up-to : tie.Need-cast-up-to
-cast-up-to c = search needs
-
-up-to-requires : tie.Need-up-to-requires
-up-to-requires c κs = search needs
 
 returns-2 : tie.Need-returns-2
 unfolding entryIn
 returns-2 c = rw (lt-ltb _ _ (c .before .before .if1 .left)) (c .up-to .ensures)
 
 pub entry-in-spec : {M : Type 1} → statement M
-entry-in-spec = tie.close (tie.spec cast-if1 returns cast-up-to up-to-requires returns-2)
+entry-in-spec =
+    tie.close
+    (tie.spec
+    (λ c. search needs) returns (λ c. search needs) (λ c. search needs) returns-2)

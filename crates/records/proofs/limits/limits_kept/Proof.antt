@@ -14,20 +14,11 @@ use Rattle.records.proofs.Ranging.{too-many-quorums}
 use Rattle.records.proofs.limits.limits_kept.Statement.{statement}
 use Rattle.records.proofs.limits.limits_kept.Tie as tie
 
-returns : tie.Need-returns
-returns c = sym (too-many-quorums _ _ _ _ (c .if1 .taken))
-
-array-share-prefix-table : tie.Need-array-share-prefix-table
-array-share-prefix-table c = search needs
-
 slice-aggregate-broken-limit : tie.Need-slice-aggregate-broken-limit
 slice-aggregate-broken-limit c =
     let st = c .before .before in
     let h : st .args .quorums ≤ length (st .args .t4) = omega arith in
     sym (length-take-le (st .args .quorums) (st .args .t4) h)
-
-broken-limit-requires : tie.Need-broken-limit-requires
-broken-limit-requires c κs = search needs
 
 returns-2 : tie.Need-returns-2
 returns-2 c =
@@ -39,8 +30,5 @@ pub limits-kept-spec : {M : Type 1} → statement M
 limits-kept-spec =
     tie.close
     (tie.spec
-    returns
-    array-share-prefix-table
-    slice-aggregate-broken-limit
-    broken-limit-requires
-    returns-2)
+    (λ c. sym (too-many-quorums _ _ _ _ (c .if1 .taken)))
+    (λ c. search needs) slice-aggregate-broken-limit (λ c. search needs) returns-2)

@@ -7,27 +7,9 @@ use Rattle.plain.specs.InRange.{phaseIn}
 use Rattle.records.proofs.station_range.phase_in.Statement.{statement}
 use Rattle.records.proofs.station_range.phase_in.Tie as tie
 
-enum-told : tie.Need-enum-told
-enum-told c = search needs
-
-enum-known-p : tie.Need-enum-known-p
-enum-known-p c = search needs
-
-cast-if1 : tie.Need-cast-if1
-cast-if1 c = search needs
-
 returns : tie.Need-returns
 unfolding phaseIn
 returns c = λ table e. rw (c .before .before .p .given .1, le-ltb _ _ (c .if1 .taken), and-false _, and-false _)
-
-wish-in-requires : tie.Need-wish-in-requires
-wish-in-requires c κs = search needs
-
-enum-known-p-2 : tie.Need-enum-known-p-2
-enum-known-p-2 c = search needs
-
-wish-in-requires-2 : tie.Need-wish-in-requires-2
-wish-in-requires-2 c κs = search needs
 
 returns-2 : tie.Need-returns-2
 unfolding phaseIn
@@ -46,13 +28,5 @@ pub phase-in-spec : {M : Type 1} → statement M
 phase-in-spec =
     tie.close
     (tie.spec
-    enum-told
-    enum-known-p
-    cast-if1
-    returns
-    wish-in-requires
-    enum-known-p-2
-    wish-in-requires-2
-    returns-2
-    returns-3
-    returns-4)
+    (λ c. search needs) (λ c. search needs) (λ c. search needs) returns (λ c. search needs) (λ c. search needs)
+    (λ c. search needs) returns-2 returns-3 returns-4)
