@@ -13,16 +13,16 @@ use plain::Message;
 use records::Lanes;
 
 // The message, and all lanes without it; or the refusal where there is no such message.
-pub(crate) struct Taken {
+pub(crate) struct Found {
     pub refusal: u8,
     pub message: Message,
     pub rest: Lanes,
 }
 
-fn nothing(refusal: u8, all: Lanes) -> Taken
+fn nothing(refusal: u8, all: Lanes) -> Found
     ensures { λ r. ⌜ r .refusal ≡ refusal ⌝ }
 {
-    Taken {
+    Found {
         refusal,
         message: Message::Release,
         rest: all,
@@ -30,7 +30,7 @@ fn nothing(refusal: u8, all: Lanes) -> Taken
 }
 
 // The oldest message in the lane of station s and arbiter j.
-pub(crate) fn take_oldest(all: Lanes, n: usize, s: usize, j: usize) -> Taken
+pub(crate) fn take_oldest(all: Lanes, n: usize, s: usize, j: usize) -> Found
     requires { ⌜ (n ≤ mostStations) × ((s j : ℕ) → s < n → j < n → length (lanesOf n all s j) ≤ upPlaces) ⌝ }
     ensures refusal { λ r. ⌜ r .refusal ≡ firstBroken (laneTests n s j (lanesOf n all s j)) ⌝ }
     ensures taken { λ r. ⌜ (r .refusal ≡ 0 → Took n s j (lanesOf n all) (r .message) (lanesOf n (r .rest))) ⌝ }
@@ -48,7 +48,7 @@ pub(crate) fn take_oldest(all: Lanes, n: usize, s: usize, j: usize) -> Taken
     let oldest = lanes::take(lane);
     let message = oldest.message;
     let rest = lanes::with_lane(all, s, j, oldest.rest);
-    Taken {
+    Found {
         refusal: refusals::NO_REFUSAL,
         message,
         rest,
