@@ -3,8 +3,8 @@
 ghost use mathlib.Core.Path.{_≡_};
 ghost use lib.ListN.{length};
 ghost use Rattle.archive.specs.Tallies.{tallyOf, tallying};
+ghost use Rattle.journal_lines.specs.Lines.{lineValue, linePlace};
 ghost use Rattle.journal_text.specs.JournalRecords.{numbersOf, readOf, recordIn, afterRecord, writing, writtenInto};
-ghost use Rattle.journal_text.specs.Lines.{lineValue, linePlace};
 ghost use Rattle.journal_text.specs.Page.{printing, printedInto};
 use archive::Totals;
 use journal_text::JournalRecord;
@@ -24,7 +24,7 @@ pub struct Part {
 pub extern "C" fn pafluzeno_read_line(key: &[u8], text: &[u8]) -> Part
     ensures { λ r. ⌜ r ≡ record { place = linePlace (now (key .entry)) (now (text .entry)); len = length (lineValue (now (key .entry)) (now (text .entry))) } ⌝ }
 {
-    let value = journal_text::read_line(key, text);
+    let value = journal_lines::read_line(key, text);
     let len = value.len();
     if len == 0 {
         return Part { place: 0, len: 0 };

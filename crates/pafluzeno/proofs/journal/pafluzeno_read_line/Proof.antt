@@ -3,7 +3,7 @@
 use mathlib.Core.Path.{ap₂}
 use Prim.Native.Nat.{ℕ}
 use borrow.Author.Needs.{needs}
-use Rattle.journal_text.proofs.LinePlaces.{part-none, part-some}
+use Rattle.journal_lines.proofs.LinePlaces.{part-none, part-some}
 use Rattle.pafluzeno.proofs.journal.pafluzeno_read_line.Statement.{statement}
 use Rattle.pafluzeno.proofs.journal.pafluzeno_read_line.Tie as tie
 
