@@ -8,12 +8,14 @@ use native.Mathlib.Omega.{arith}
 use lib.ListN.{length, set, length-append}
 use borrow.Author.Tests.{lt-ltb, le-ltb}
 use Rattle.lists.proofs.Cuts.{length-cut, cut-push}
+use Rattle.units.specs.Units.{noUnits}
+use Rattle.units.specs.declared.Units.{Units}
+use Rattle.units.proofs.Granting.{granted-with}
 use Rattle.plain.specs.Arbiter.{arrived}
 use Rattle.plain.specs.Lanes.{linePlaces, passes}
 use Rattle.plain.specs.declared.Message.the-variants.{Request, Release, Grant}
 use Rattle.records.specs.View.{noEntry, arbiterOf}
 use Rattle.records.specs.declared.Arbiter.{Arbiter}
-use Rattle.records.proofs.Viewing.{granted-with}
 
 pub line-length : (n : ℕ) (a : Arbiter) → length (arbiterOf n a .line) ≡ a .len
 unfolding arbiterOf
@@ -21,7 +23,7 @@ line-length n a = length-cut noEntry (a .len) (a .line)
 
 -- ---- whether the line would pass its limit
 
-module _ (n s h : ℕ) (a : Arbiter) where
+module _ (n s : ℕ) (h : Units) (a : Arbiter) where
   request-length : length (arrived (Request h) s (arbiterOf n a) .line) ≡ a .len + 1
   unfolding arrived
   request-length = length-append (arbiterOf n a .line) (record { station = s; units = h } ∷ []) ∙ ap (λ (l : ℕ). l + 1) (line-length n a)
@@ -43,7 +45,7 @@ grant-room n s a h = rw (line-length n a) (le-ltb linePlaces (a .len) h)
 
 -- ---- what is stored
 
-pub request-joins : (n s h : ℕ) (a : Arbiter) → length (a .line) ≡ linePlaces → a .len < linePlaces
+pub request-joins : (n s : ℕ) (h : Units) (a : Arbiter) → length (a .line) ≡ linePlaces → a .len < linePlaces
     → arbiterOf n (record { granted = a .granted; len = a .len + 1; line = set (a .line) (a .len) (record { station = s; units = h }) }) ≡ arrived (Request h) s (arbiterOf n a)
 unfolding arbiterOf arrived
 request-joins n s h a e l =
@@ -51,6 +53,6 @@ request-joins n s h a e l =
     rw (cut-push noEntry (a .len) (a .line) (record { station = s; units = h }) l′)
 
 pub release-clears : (n s : ℕ) (a : Arbiter) → s < n → s < length (a .granted)
-    → arbiterOf n (record { granted = set (a .granted) s 0; len = a .len; line = a .line }) ≡ arrived Release s (arbiterOf n a)
+    → arbiterOf n (record { granted = set (a .granted) s noUnits; len = a .len; line = a .line }) ≡ arrived Release s (arbiterOf n a)
 unfolding arbiterOf arrived
-release-clears n s a p q = rw (granted-with n (a .granted) s 0 p q)
+release-clears n s a p q = rw (granted-with n (a .granted) s noUnits p q)

@@ -10,6 +10,7 @@ use borrow.Author.Tests.{eq-eqb, ne-eqb}
 use Rattle.lists.specs.Cut.{cut}
 use Rattle.lists.proofs.Broken.{Kept, numberAt, BrokenAt, first-later, tests-refuse}
 use Rattle.lists.proofs.Cuts.{drop-cut, drop-cut-end}
+use Rattle.units.specs.declared.Units.{Units}
 use Rattle.plain.specs.Arbiter.{arrived}
 use Rattle.plain.specs.Lanes.{linePlaces, passes}
 use Rattle.plain.specs.State.{Arbiter as PlainArbiter}
@@ -36,21 +37,21 @@ module _ (line : List Entry) (grants t i : ℕ) where
 -- ---- by its tests
 
 -- the test at place i is broken, and none before it
-module _ (k s : ℕ) (m : Upward) (a : PlainArbiter) where
-  pub lending-refused : (i : ℕ) → BrokenAt i (lentTests k s m a) → ltb 0 (numberAt i (lentTests k s m a)) ≡ true → lending k s m a ≡ turnedAway a (numberAt i (lentTests k s m a))
+module _ (stock : Units) (s : ℕ) (m : Upward) (a : PlainArbiter) where
+  pub lending-refused : (i : ℕ) → BrokenAt i (lentTests stock s m a) → ltb 0 (numberAt i (lentTests stock s m a)) ≡ true → lending stock s m a ≡ turnedAway a (numberAt i (lentTests stock s m a))
   unfolding lending lentBy
-  lending-refused i b n = tests-refuse (lentAs k s (sentUp m) a) (turnedAway a) i (lentTests k s m a) b n
+  lending-refused i b n = tests-refuse (lentAs stock s (sentUp m) a) (turnedAway a) i (lentTests stock s m a) b n
 
   -- 2, 19, 8 and 10 are kept
-  pub lending-delivers : Kept (take 4 (lentTests k s m a)) → lending k s m a ≡ delivering k s (sentUp m) a
+  pub lending-delivers : Kept (take 4 (lentTests stock s m a)) → lending stock s m a ≡ delivering stock s (sentUp m) a
   unfolding lending
-  lending-delivers kept = ap (λ (r : ℕ). lentBy r k s (sentUp m) a) (first-later (take 4 (lentTests k s m a)) (drop 4 (lentTests k s m a)) kept)
+  lending-delivers kept = ap (λ (r : ℕ). lentBy r stock s (sentUp m) a) (first-later (take 4 (lentTests stock s m a)) (drop 4 (lentTests stock s m a)) kept)
 
-module _ (k s : ℕ) (m : Message) (a : PlainArbiter) where
-  pub delivering-full : passes linePlaces (arrived m s a .line) ≡ true → delivering k s m a ≡ turnedAway a lineFull
+module _ (stock : Units) (s : ℕ) (m : Message) (a : PlainArbiter) where
+  pub delivering-full : passes linePlaces (arrived m s a .line) ≡ true → delivering stock s m a ≡ turnedAway a lineFull
   unfolding lentBy
   delivering-full e = rw e
 
-  pub delivering-done : passes linePlaces (arrived m s a .line) ≡ false → delivering k s m a ≡ lentAs k s m a
+  pub delivering-done : passes linePlaces (arrived m s a .line) ≡ false → delivering stock s m a ≡ lentAs stock s m a
   unfolding lentBy
   delivering-done e = rw e

@@ -15,7 +15,9 @@ use Rattle.lists.proofs.Broken.{numberAt, BrokenAt, tests-done, tests-refuse}
 use Rattle.lists.proofs.Cuts.{length-cut, getD-cut}
 use Rattle.lists.proofs.Searches.{all-at}
 use Rattle.lists.proofs.Tests.{known, and-left, and-right, and-both}
-use Rattle.quorum.specs.Limits.{mostStations, upTo}
+use Rattle.quorum.specs.Limits.{mostStations}
+use Rattle.units.specs.Units.{requestIn}
+use Rattle.units.specs.declared.Units.{Units}
 use Rattle.plain.specs.Arbiter.{arrived, served}
 use Rattle.plain.specs.InRange.{entryIn, arbiterIn}
 use Rattle.plain.specs.Lanes.{linePlaces, keeps, passes}
@@ -82,74 +84,74 @@ module _ (n : ℕ) where
   arrived-servable Grant s a l e room = e
 
   -- and that of an arbiter in range can be served
-  all-of : (k : ℕ) (line : List Entry) → all (entryIn n k) line ≡ true → all (isOf n) line ≡ true
+  all-of : (stock : Units) (line : List Entry) → all (entryIn n stock) line ≡ true → all (isOf n) line ≡ true
   unfolding entryIn
-  all-of k [] e = refl
-  all-of k (x ∷ line) e =
-      and-both (and-left (ltb (x .station) n) (upTo k (x .units)) (and-left (entryIn n k x) (all (entryIn n k) line) e))
-      (all-of k line (and-right (entryIn n k x) (all (entryIn n k) line) e))
+  all-of stock [] e = refl
+  all-of stock (x ∷ line) e =
+      and-both (and-left (ltb (x .station) n) (requestIn stock (x .units)) (and-left (entryIn n stock x) (all (entryIn n stock) line) e))
+      (all-of stock line (and-right (entryIn n stock x) (all (entryIn n stock) line) e))
 
-  pub in-range-servable : (k : ℕ) (a : PlainArbiter) → n ≤ mostStations → arbiterIn n k a ≡ true → servable n a ≡ true
+  pub in-range-servable : (stock : Units) (a : PlainArbiter) → n ≤ mostStations → arbiterIn n stock a ≡ true → servable n a ≡ true
   unfolding servable keeps
-  in-range-servable k a few e =
-      let line = arbiter-facts n k a e .line in
+  in-range-servable stock a few e =
+      let line = arbiter-facts n stock a e .line in
       and-both (le-leb n mostStations few)
-      (and-both (le-leb (length (a .line)) linePlaces (keeps-short linePlaces (entryIn n k) (a .line) line)) (all-of k (a .line) (keeps-all linePlaces (entryIn n k) (a .line) line)))
+      (and-both (le-leb (length (a .line)) linePlaces (keeps-short linePlaces (entryIn n stock) (a .line) line)) (all-of stock (a .line) (keeps-all linePlaces (entryIn n stock) (a .line) line)))
 
 -- ---- by its tests
 
-module _ (n k s : ℕ) (m : Message) (a : PlainArbiter) where
-  pub telling-refused : (i : ℕ) → BrokenAt i (tellingTests n s m a) → ltb 0 (numberAt i (tellingTests n s m a)) ≡ true → telling n k s m a ≡ untold a (numberAt i (tellingTests n s m a))
+module _ (n : ℕ) (stock : Units) (s : ℕ) (m : Message) (a : PlainArbiter) where
+  pub telling-refused : (i : ℕ) → BrokenAt i (tellingTests n s m a) → ltb 0 (numberAt i (tellingTests n s m a)) ≡ true → telling n stock s m a ≡ untold a (numberAt i (tellingTests n s m a))
   unfolding telling
-  telling-refused i b d = tests-refuse (toldAs n k s m a) (untold a) i (tellingTests n s m a) b d
+  telling-refused i b d = tests-refuse (toldAs n stock s m a) (untold a) i (tellingTests n s m a) b d
 
   module _ (fit : servable n a ≡ true) (station : s < n) where
-    pub telling-full : passes linePlaces (arrived m s a .line) ≡ true → telling n k s m a ≡ untold a lineFull
+    pub telling-full : passes linePlaces (arrived m s a .line) ≡ true → telling n stock s m a ≡ untold a lineFull
     telling-full f = telling-refused 2 ((rw fit, (lt-leb n s station, tt)), f) refl
 
-    pub telling-done : passes linePlaces (arrived m s a .line) ≡ false → telling n k s m a ≡ toldAs n k s m a
+    pub telling-done : passes linePlaces (arrived m s a .line) ≡ false → telling n stock s m a ≡ toldAs n stock s m a
     unfolding telling
-    telling-done f = tests-done (toldAs n k s m a) (untold a) (tellingTests n s m a) (rw fit, (lt-leb n s station, (f, tt)))
+    telling-done f = tests-done (toldAs n stock s m a) (untold a) (tellingTests n s m a) (rw fit, (lt-leb n s station, (f, tt)))
 
 -- ---- what a caller learns, whose arbiter can be served and whose station exists
 
 -- the message has joined, and nothing was refused: the entries granted are the first so many of the line, all within the arrays
-pub record Told (n k : ℕ) (joined : PlainArbiter) (d : Delivery) : Type 0 where
+pub record Told (n : ℕ) (stock : Units) (joined : PlainArbiter) (d : Delivery) : Type 0 where
   pub room : passes linePlaces (joined .line) ≡ false
-  pub arbiter : arbiterOf n (d .arbiter) ≡ served n k joined .arbiter
-  pub grants : cut noEntry (d .grants) (d .line) ≡ served n k joined .grants
+  pub arbiter : arbiterOf n (d .arbiter) ≡ served n stock joined .arbiter
+  pub grants : cut noEntry (d .grants) (d .line) ≡ served n stock joined .grants
   pub short : d .grants ≤ linePlaces
   pub named : Named n (d .grants) (d .line)
 
-module _ (n k s : ℕ) (m : Message) (a : PlainArbiter) (fit : servable n a ≡ true) (station : s < n) (d : Delivery) (told : toldOf n d ≡ telling n k s m a) where
+module _ (n : ℕ) (stock : Units) (s : ℕ) (m : Message) (a : PlainArbiter) (fit : servable n a ≡ true) (station : s < n) (d : Delivery) (told : toldOf n d ≡ telling n stock s m a) where
   abbrev joined : PlainArbiter
   joined = arrived m s a
 
-  refusal-is : d .refusal ≡ telling n k s m a .refusal
+  refusal-is : d .refusal ≡ telling n stock s m a .refusal
   unfolding toldOf
   refusal-is = ap (λ (t : Telling). t .refusal) told
 
   pub told-full : (d .refusal ≡ 0 → ⊥) → passes linePlaces (joined .line) ≡ true
   told-full some =
       ⊎-elim (λ (t : passes linePlaces (joined .line) ≡ true). t)
-      (λ (f : passes linePlaces (joined .line) ≡ false). absurd (some (refusal-is ∙ ap (λ (t : Telling). t .refusal) (telling-done n k s m a fit station f))))
+      (λ (f : passes linePlaces (joined .line) ≡ false). absurd (some (refusal-is ∙ ap (λ (t : Telling). t .refusal) (telling-done n stock s m a fit station f))))
       (known (passes linePlaces (joined .line)))
 
   told-room : d .refusal ≡ 0 → passes linePlaces (joined .line) ≡ false
   told-room none =
-      ⊎-elim (λ (t : passes linePlaces (joined .line) ≡ true). absurd (omega (arith, refusal-is ∙ ap (λ (x : Telling). x .refusal) (telling-full n k s m a fit station t))))
+      ⊎-elim (λ (t : passes linePlaces (joined .line) ≡ true). absurd (omega (arith, refusal-is ∙ ap (λ (x : Telling). x .refusal) (telling-full n stock s m a fit station t))))
       (λ (f : passes linePlaces (joined .line) ≡ false). f)
       (known (passes linePlaces (joined .line)))
 
-  pub told-done : d .refusal ≡ 0 → Told n k joined d
+  pub told-done : d .refusal ≡ 0 → Told n stock joined d
   unfolding toldOf
   told-done none =
       let room = told-room none in
-      let done = told ∙ telling-done n k s m a fit station room in
-      let grants : cut noEntry (d .grants) (d .line) ≡ served n k joined .grants = ap (λ (t : Telling). t .grants) done in
+      let done = told ∙ telling-done n stock s m a fit station room in
+      let grants : cut noEntry (d .grants) (d .line) ≡ served n stock joined .grants = ap (λ (t : Telling). t .grants) done in
       let fits = arrived-servable n m s a station fit room in
-      let splits = serve-splits n k (joined .granted) (joined .line) in
-      let long = sym (length-append (served n k joined .grants) (served n k joined .arbiter .line)) ∙ ap length splits in
+      let splits = serve-splits n stock (joined .granted) (joined .line) in
+      let long = sym (length-append (served n stock joined .grants) (served n stock joined .arbiter .line)) ∙ ap length splits in
       let many = sym (length-cut noEntry (d .grants) (d .line)) ∙ ap length grants in
       let limit = keeps-short linePlaces (isOf n) (joined .line) (servable-line n joined fits) in
       record {
@@ -158,7 +160,7 @@ module _ (n k s : ℕ) (m : Message) (a : PlainArbiter) (fit : servable n a ≡ 
         grants = grants;
         short = omega (arith, long, many, limit);
         named = λ i h.
-            let first = List·getD-append (served n k joined .grants) (served n k joined .arbiter .line) noEntry i (omega (arith, many)) in
+            let first = List·getD-append (served n stock joined .grants) (served n stock joined .arbiter .line) noEntry i (omega (arith, many)) in
             let same = sym (getD-cut noEntry (d .grants) (d .line) i h) ∙ ap (λ (l : List Entry). getD l i noEntry) grants ∙ sym first ∙ ap (λ (l : List Entry). getD l i noEntry) splits in
             rw same (entry-of n joined fits i (omega (arith, long, many)));
       }

@@ -7,6 +7,8 @@ use Rattle.lists.specs.Broken.{Test, _when_, firstBroken, doneOr}
 use Rattle.lists.specs.Search.{any}
 use Rattle.stations.specs.Sets.{setOf}
 use Rattle.quorum.specs.Limits.{mostStations, mostUnits, upTo}
+use Rattle.units.specs.Units.{requestIn, askedWith, unitsOf}
+use Rattle.units.specs.declared.Units.{Units}
 use Rattle.plain.specs.Arbiter.{arrived, served}
 use Rattle.plain.specs.InRange.{arbiterIn}
 use Rattle.plain.specs.Lanes.{linePlaces, passes}
@@ -23,13 +25,13 @@ use Rattle.arbiters.specs.declared.Upward.the-variants.{Request as UpReq
 
 -- the message that a station sends up
 abbrev pub sentUp : Upward → Message
-sentUp (UpRequest h) = Request h
+sentUp (UpRequest h) = Request (unitsOf h)
 sentUp UpRelease = Release
 
 -- "10 (REQUEST only)": units outside 1..k
-abbrev pub badUnits : ℕ → Upward → Bool
-badUnits k (UpRequest h) = not (upTo k h)
-badUnits k UpRelease = false
+abbrev pub badUnits : Units → Upward → Bool
+badUnits stock (UpRequest h) = not (requestIn stock (unitsOf h))
+badUnits stock UpRelease = false
 
 -- whether station t is among those granted
 abbrev pub isGranted : List Entry → ℕ → Bool
@@ -50,30 +52,30 @@ abbrev pub turnedAway : PlainArbiter → ℕ → Lending
 turnedAway a r = record { refusal = r; granted = 0; arbiter = a }
 
 -- "That call applies the arbiter's part of Up", on n = 12
-abbrev pub lentAs : ℕ → ℕ → Message → PlainArbiter → Lending
-lentAs k s m a =
+abbrev pub lentAs : Units → ℕ → Message → PlainArbiter → Lending
+lentAs stock s m a =
     record {
       refusal = 0;
-      granted = grantedSet (served mostStations k (arrived m s a) .grants);
-      arbiter = served mostStations k (arrived m s a) .arbiter;
+      granted = grantedSet (served mostStations stock (arrived m s a) .grants);
+      arbiter = served mostStations stock (arrived m s a) .arbiter;
     }
 
 -- refused by r, or else (r = 0) applied
-unfoldable pub lentBy : ℕ → ℕ → ℕ → Message → PlainArbiter → Lending
-lentBy r k s m a = doneOr (lentAs k s m a) (turnedAway a) r
+unfoldable pub lentBy : ℕ → Units → ℕ → Message → PlainArbiter → Lending
+lentBy r stock s m a = doneOr (lentAs stock s m a) (turnedAway a) r
 
 -- "Its refusals, in order, are 2, 19 (the same limits with n = 12), 8 (station above 11), 10 (REQUEST only), 14"
-abbrev pub lentTests : ℕ → ℕ → Upward → PlainArbiter → List Test
-lentTests k s m a =
-    2 when not (upTo mostUnits k)
-    ∷ 19 when not (arbiterIn mostStations k a)
+abbrev pub lentTests : Units → ℕ → Upward → PlainArbiter → List Test
+lentTests stock s m a =
+    2 when not (upTo mostUnits (askedWith stock))
+    ∷ 19 when not (arbiterIn mostStations stock a)
     ∷ 8 when leb mostStations s
-    ∷ 10 when badUnits k m
+    ∷ 10 when badUnits stock m
     ∷ lineFull when passes linePlaces (arrived (sentUp m) s a .line)
     ∷ []
 
-unfoldable pub lending : ℕ → ℕ → Upward → PlainArbiter → Lending
-lending k s m a = lentBy (firstBroken (lentTests k s m a)) k s (sentUp m) a
+unfoldable pub lending : Units → ℕ → Upward → PlainArbiter → Lending
+lending stock s m a = lentBy (firstBroken (lentTests stock s m a)) stock s (sentUp m) a
 
 -- what the code's answer and the record that it leaves say
 unfoldable pub lentOf : Reply → Arbiter → Lending

@@ -6,6 +6,7 @@ use lib.Dec.{leb, ltb}
 use Rattle.lists.specs.Broken.{Test, _when_, firstBroken, doneOr}
 use Rattle.lists.specs.Cut.{cut}
 use Rattle.quorum.specs.Limits.{mostStations}
+use Rattle.units.specs.declared.Units.{Units}
 use Rattle.plain.specs.Arbiter.{arrived, served}
 use Rattle.plain.specs.Lanes.{linePlaces, keeps, passes}
 use Rattle.plain.specs.State.{Arbiter as PlainArbiter}
@@ -41,11 +42,11 @@ abbrev pub tellingTests : ℕ → ℕ → Message → PlainArbiter → List Test
 tellingTests n s m a = 19 when not (servable n a) ∷ 8 when leb n s ∷ lineFull when passes linePlaces (arrived m s a .line) ∷ []
 
 -- the message arrives (a GRANT, which no station sends up, changes nothing), and the line is served
-abbrev pub toldAs : ℕ → ℕ → ℕ → Message → PlainArbiter → Telling
-toldAs n k s m a = record { refusal = 0; arbiter = served n k (arrived m s a) .arbiter; grants = served n k (arrived m s a) .grants }
+abbrev pub toldAs : ℕ → Units → ℕ → Message → PlainArbiter → Telling
+toldAs n stock s m a = record { refusal = 0; arbiter = served n stock (arrived m s a) .arbiter; grants = served n stock (arrived m s a) .grants }
 
-unfoldable pub telling : ℕ → ℕ → ℕ → Message → PlainArbiter → Telling
-telling n k s m a = doneOr (toldAs n k s m a) (untold a) (firstBroken (tellingTests n s m a))
+unfoldable pub telling : ℕ → Units → ℕ → Message → PlainArbiter → Telling
+telling n stock s m a = doneOr (toldAs n stock s m a) (untold a) (firstBroken (tellingTests n s m a))
 
 -- what the code's answer says
 unfoldable pub toldOf : ℕ → Delivery → Telling

@@ -15,6 +15,7 @@ use plain::Message;
 use records::Arbiter;
 use records::LINE_PLACES;
 use records::STATIONS;
+use units::Units;
 
 // What a message makes of an arbiter. Granted are the first entries of the line. A refusal grants nothing and hands back the arbiter that was
 // given.
@@ -105,7 +106,8 @@ fn arrive(a: Arbiter, s: usize, m: Message) -> Arrived
         }
         Message::Release => {
             let mut next = a;
-            next.granted[s] = 0;
+            let none = units::no_units();
+            next.granted[s] = none;
             Arrived {
                 full: false,
                 arbiter: next,
@@ -118,9 +120,9 @@ fn arrive(a: Arbiter, s: usize, m: Message) -> Arrived
     }
 }
 
-// The message m of station s reaches an arbiter of n stations with a stock of k units. Any caller may give any of them.
-pub fn deliver(a: Arbiter, n: usize, k: usize, s: usize, m: Message) -> Delivery
-    ensures told { λ r. ⌜ toldOf n r ≡ telling n k s m (arbiterOf n a) ⌝ }
+// The message m of station s reaches an arbiter of n stations with this stock. Any caller may give any of them.
+pub fn deliver(a: Arbiter, n: usize, stock: Units, s: usize, m: Message) -> Delivery
+    ensures told { λ r. ⌜ toldOf n r ≡ telling n stock s m (arbiterOf n a) ⌝ }
     ensures refused { λ r. ⌜ (0 < r .refusal → r .arbiter ≡ a) ⌝ }
 {
     if !is_servable(a, n) {
@@ -135,7 +137,7 @@ pub fn deliver(a: Arbiter, n: usize, k: usize, s: usize, m: Message) -> Delivery
     }
     let b = arrival.arbiter;
     let line = b.line;
-    let service = service::serve(b, n, k);
+    let service = service::serve(b, n, stock);
     let last = service.arbiter;
     Delivery {
         refusal: refusals::NO_REFUSAL,

@@ -7,6 +7,7 @@ ghost use Rattle.quorum.specs.Limits.{mostStations};
 ghost use Rattle.plain.specs.InRange.{arbiterIn};
 ghost use Rattle.plain.specs.Lanes.{linePlaces};
 ghost use Rattle.records.specs.View.{noEntry, arbiterOf};
+ghost use Rattle.units.specs.Units.{stockOf};
 ghost use Rattle.arbiters.specs.Inner.Ready.{delivering};
 ghost use Rattle.arbiters.specs.Lent.{isGranted, grantedSet, turnedAway, lending, lentOf};
 use crate::Incoming;
@@ -19,6 +20,7 @@ use plain::Message;
 use records::Arbiter;
 use records::LINE_PLACES;
 use records::STATIONS;
+use units::Units;
 
 // Whether station t is among the first entries of the line.
 fn is_granted(line: [Entry; LINE_PLACES], grants: usize, t: usize) -> bool
@@ -66,12 +68,12 @@ fn refuse_lent(a: Arbiter, refusal: u8) -> Settled
 }
 
 // The message has passed all tests but that of the line's limit.
-fn deliver_lent(a: Arbiter, k: usize, s: usize, m: Message) -> Settled
-    requires { ⌜ (arbiterIn mostStations k (arbiterOf mostStations a) ≡ true) × (s < mostStations) ⌝ }
-    ensures answer { λ r. ⌜ lentOf (r .reply) (r .arbiter) ≡ delivering k s m (arbiterOf mostStations a) ⌝ }
+fn deliver_lent(a: Arbiter, stock: Units, s: usize, m: Message) -> Settled
+    requires { ⌜ (arbiterIn mostStations stock (arbiterOf mostStations a) ≡ true) × (s < mostStations) ⌝ }
+    ensures answer { λ r. ⌜ lentOf (r .reply) (r .arbiter) ≡ delivering stock s m (arbiterOf mostStations a) ⌝ }
     ensures refused { λ r. ⌜ (0 < r .reply .refusal → r .arbiter ≡ a) ⌝ }
 {
-    let delivery = delivery::deliver(a, STATIONS, k, s, m);
+    let delivery = delivery::deliver(a, STATIONS, stock, s, m);
     if delivery.refusal != refusals::NO_REFUSAL {
         return refuse_lent(a, refusals::NO_PLACE); // the only one left
     }
@@ -90,14 +92,15 @@ fn deliver_lent(a: Arbiter, k: usize, s: usize, m: Message) -> Settled
 // A message of a station, whose stock and number any caller may give: the arbiter's part of Up on its record, by value. A refusal answers the
 // empty set and changes nothing.
 pub fn settle(a: Arbiter, i: Incoming) -> Settled
-    ensures { λ r. ⌜ (lentOf (r .reply) (r .arbiter) ≡ lending (i .stock) (i .station) (i .message) (arbiterOf mostStations a)) × (0 < r .reply .refusal → r .arbiter ≡ a) ⌝ }
+    ensures { λ r. ⌜ (lentOf (r .reply) (r .arbiter) ≡ lending (stockOf (i .stock)) (i .station) (i .message) (arbiterOf mostStations a)) × (0 < r .reply .refusal → r .arbiter ≡ a) ⌝ }
 {
     let k = i.stock;
     let s = i.station;
     if !quorum::limits::up_to(quorum::MOST_UNITS, k) {
         return refuse_lent(a, refusals::BAD_STOCK);
     }
-    if !records::arbiter_in_range(a, STATIONS, k) {
+    let stock = units::stock_of(k);
+    if !records::arbiter_in_range(a, STATIONS, stock) {
         return refuse_lent(a, refusals::OUT_OF_RANGE);
     }
     if STATIONS <= s {
@@ -106,11 +109,12 @@ pub fn settle(a: Arbiter, i: Incoming) -> Settled
     let m = i.message;
     match m {
         Upward::Request(h) => {
-            if !quorum::limits::up_to(k, h) {
+            let u = units::units_of(h);
+            if !units::request_in(stock, u) {
                 return refuse_lent(a, refusals::BAD_UNITS);
             }
-            deliver_lent(a, k, s, Message::Request(h as u8))
+            deliver_lent(a, stock, s, Message::Request(u))
         }
-        Upward::Release => deliver_lent(a, k, s, Message::Release),
+        Upward::Release => deliver_lent(a, stock, s, Message::Release),
     }
 }

@@ -1,43 +1,20 @@
 // The line of an arbiter is served, strictly from its first entry on.
 ghost use mathlib.Core.Path.{_≡_};
-ghost use Prim.Native.Nat.{ℕ, _+_, _≤_, _<_};
+ghost use Prim.Native.Nat.{ℕ, _+_, _≤_};
 ghost use lib.ListN.{drop};
-ghost use Rattle.lists.specs.Counting.{total};
 ghost use Rattle.lists.specs.Cut.{cut};
 ghost use Rattle.plain.specs.Arbiter.{served};
 ghost use Rattle.plain.specs.Lanes.{linePlaces};
-ghost use Rattle.quorum.specs.Limits.{mostStations};
-ghost use Rattle.records.specs.View.{noEntry, grantedOf, arbiterOf};
+ghost use Rattle.records.specs.View.{noEntry, arbiterOf};
 ghost use Rattle.arbiters.specs.Inner.Ready.{Serves};
 use plain::Entry;
 use records::Arbiter;
 use records::LINE_PLACES;
-use records::STATIONS;
+use units::Units;
 
 pub(crate) struct Service {
     pub arbiter: Arbiter,
     pub grants: usize,
-}
-
-// A number of units, at most 255 in any record.
-fn wide(units: u8) -> usize
-    ensures { λ r. ⌜ (r ≡ units) × (r ≤ 255) ⌝ }
-{
-    units as usize
-}
-
-// All units granted to the stations below n.
-fn granted_units(granted: [u8; STATIONS], n: usize) -> usize
-    requires { ⌜ n ≤ mostStations ⌝ }
-    ensures { λ r. ⌜ (r ≡ total (grantedOf n granted) n) × (r ≤ 3060) ⌝ }
-{
-    let mut units: usize = 0;
-    let mut s: usize = 0;
-    while s < n {
-        units += wide(granted[s]);
-        s += 1;
-    }
-    units
 }
 
 // The line without its first entries.
@@ -56,10 +33,10 @@ fn shifted(line: [Entry; LINE_PLACES], by: usize) -> [Entry; LINE_PLACES]
 }
 
 // The arbiter after its line was served, and how many entries of the line were granted.
-pub(crate) fn serve(a: Arbiter, n: usize, k: usize) -> Service
+pub(crate) fn serve(a: Arbiter, n: usize, stock: Units) -> Service
     requires { ⌜ Serves n a ⌝ }
-    ensures arbiter { λ r. ⌜ arbiterOf n (r .arbiter) ≡ served n k (arbiterOf n a) .arbiter ⌝ }
-    ensures grants { λ r. ⌜ (cut noEntry (r .grants) (a .line) ≡ served n k (arbiterOf n a) .grants) × (r .grants ≤ a .len) ⌝ }
+    ensures arbiter { λ r. ⌜ arbiterOf n (r .arbiter) ≡ served n stock (arbiterOf n a) .arbiter ⌝ }
+    ensures grants { λ r. ⌜ (cut noEntry (r .grants) (a .line) ≡ served n stock (arbiterOf n a) .grants) × (r .grants ≤ a .len) ⌝ }
 {
     let len = a.len as usize;
     let line = a.line;
@@ -67,12 +44,12 @@ pub(crate) fn serve(a: Arbiter, n: usize, k: usize) -> Service
     let mut i: usize = 0;
     while i < len {
         let e = line[i];
-        let units = e.units;
-        if k < wide(units) + granted_units(granted, n) {
+        let u = e.units;
+        if !units::fits(n, stock, granted, u) {
             break;
         }
         let s = e.station as usize;
-        granted[s] = units;
+        granted[s] = u;
         i += 1;
     }
     let rest = shifted(line, i);

@@ -12,6 +12,8 @@ use Rattle.lists.specs.At.{at2}
 use Rattle.lists.proofs.Broken.{first-later}
 use Rattle.lists.proofs.Tests.{known}
 use Rattle.stations.specs.Sets.{lowestFrom}
+use Rattle.units.specs.Units.{noUnits}
+use Rattle.units.specs.declared.Units.{Units}
 use Rattle.plain.specs.Answer.{Answer, refused, done, answered}
 use Rattle.plain.specs.Asking.{askPasses, asking}
 use Rattle.plain.specs.Inner.Passed.{Requests}
@@ -42,12 +44,12 @@ lane-room limit l m h = le-ltb limit (length (sent (laneOf l) m)) (rw (length-ap
 
 -- ---- by the room in the lane
 
-module _ (st : State) (s q h m : ℕ) where
+module _ (st : State) (s q : ℕ) (h : Units) (m : ℕ) where
   pub ask-full : askPasses st s h m ≡ true → askAnswer st s q h m ≡ refused st noPlace
   unfolding answered
   ask-full f = rw f
 
-  pub ask-room : askPasses st s h m ≡ false → askAnswer st s q h m ≡ done 0 0 (asking st s q h m)
+  pub ask-room : askPasses st s h m ≡ false → askAnswer st s q h m ≡ done noUnits noUnits (asking st s q h m)
   unfolding answered
   ask-room f = rw f
 
@@ -63,7 +65,7 @@ module _ (st : State) (s q h m : ℕ) where
 
 -- ---- on a record
 
-module _ (r : Record) (s q h m : ℕ) (l : Lane) (at-lane : lanesOf (r .n) (r .up) s m ≡ laneOf l) where
+module _ (r : Record) (s q : ℕ) (h : Units) (m : ℕ) (l : Lane) (at-lane : lanesOf (r .n) (r .up) s m ≡ laneOf l) where
   pub lane-asked : upPlaces ≤ l .len → askAnswer (view r) s q h m ≡ refused (view r) noPlace
   unfolding view
   lane-asked f = ask-full (view r) s q h m (rw at-lane (lane-full upPlaces l (Request h) f))
@@ -73,18 +75,18 @@ module _ (r : Record) (s q h m : ℕ) (l : Lane) (at-lane : lanesOf (r .n) (r .u
     unfolding view
     states = rw at-lane (sym (phase-stored (storeUp lanes r) s (Collecting q h m) exists long ∙ rw put))
 
-    pub asked-goes : l .len < upPlaces → askAnswer (view r) s q h m ≡ done 0 0 (view (storePhase s (Collecting q h m) (storeUp lanes r)))
+    pub asked-goes : l .len < upPlaces → askAnswer (view r) s q h m ≡ done noUnits noUnits (view (storePhase s (Collecting q h m) (storeUp lanes r)))
     unfolding view
-    asked-goes f = ask-room (view r) s q h m (rw at-lane (lane-room upPlaces l (Request h) f)) ∙ ap (done 0 0) states
+    asked-goes f = ask-room (view r) s q h m (rw at-lane (lane-room upPlaces l (Request h) f)) ∙ ap (done noUnits noUnits) states
 
 -- ---- Request asks the lowest member
 
-pub request-asks : (st : State) (s q h : ℕ) → Requests st s q h → request st s q h ≡ askAnswer st s q h (lowest st q)
+pub request-asks : (st : State) (s q : ℕ) (h : Units) → Requests st s q h → request st s q h ≡ askAnswer st s q h (lowest st q)
 unfolding request requestRefusal requested
 request-asks st s q h r =
-    ap (λ (x : ℕ). answered st x 0 0 (requested st s q h)) (first-later (take 5 (requestTests st s q h)) (drop 5 (requestTests st s q h)) (request-kept st s q h r))
+    ap (λ (x : ℕ). answered st x noUnits noUnits (requested st s q h)) (first-later (take 5 (requestTests st s q h)) (drop 5 (requestTests st s q h)) (request-kept st s q h r))
 
-module _ (r : Record) (s q h : ℕ) (passed : Requests (view r) s q h) where
+module _ (r : Record) (s q : ℕ) (h : Units) (passed : Requests (view r) s q h) where
   exists : q < r .quorums
   exists = omega (arith, passed .quorum, table-length r)
 

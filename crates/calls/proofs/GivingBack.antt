@@ -5,6 +5,8 @@ use mathlib.Core.Path.{_≡_, sym, ap, _∙_}
 use Prim.Native.Nat.{ℕ, _<_}
 use lib.ListN.{length, getD, set}
 use Rattle.lists.specs.Search.{someBelow}
+use Rattle.units.specs.Units.{noUnits}
+use Rattle.units.specs.declared.Units.{Units}
 use Rattle.plain.specs.Answer.{refused, done}
 use Rattle.plain.specs.Inner.Passed.{Releases}
 use Rattle.plain.specs.Lanes.{noPlace}
@@ -18,7 +20,7 @@ use Rattle.records.proofs.Storing.{storePhase, storeUp, phase-stored}
 use Rattle.records.proofs.Viewing.{quorum-at, phases-at, rows-at, rows-with}
 use Rattle.calls.proofs.RecordInRange.{holds}
 
-module _ (r : Record) (s q h : ℕ) (releases : Releases (view r) s q h) where
+module _ (r : Record) (s q : ℕ) (h : Units) (releases : Releases (view r) s q h) where
   -- the quorum, and the station's lanes up, as the code reads them
   abbrev pub set-of : ℕ
   set-of = getD (r .table) q 0
@@ -48,6 +50,6 @@ module _ (r : Record) (s q h : ℕ) (releases : Releases (view r) s q h) where
         sym (phase-stored (storeUp (record { rows = set (r .up .rows) s row }) r) s Idle (releases .station) stations
         ∙ rw (rows-with (r .n) (r .up) s row (releases .station) rows, longer, quorum-at r q exists, rows-at (r .n) (r .up) s (releases .station)))
 
-    pub back-done : full ≡ false → release (view r) s ≡ done 0 h (view (given-back row))
+    pub back-done : full ≡ false → release (view r) s ≡ done noUnits h (view (given-back row))
     unfolding view
-    back-done f = release-done (view r) s releases (rw (quorum-at r q exists, rows-at (r .n) (r .up) s (releases .station)) f) ∙ ap (done 0 h) states
+    back-done f = release-done (view r) s releases (rw (quorum-at r q exists, rows-at (r .n) (r .up) s (releases .station)) f) ∙ ap (done noUnits h) states

@@ -9,6 +9,7 @@ use Rattle.stations.specs.Sets.{places, lowestFrom}
 use Rattle.stations.proofs.Lowest.{lowest-from}
 use Rattle.stations.proofs.Members.{member-station}
 use Rattle.quorum.specs.Family.{quorum}
+use Rattle.units.specs.declared.Units.{Units}
 use Rattle.plain.specs.Down.{Taken, onward, taken}
 use Rattle.plain.specs.declared.Phase.{Phase}
 use Rattle.plain.specs.declared.Phase.the-variants.{Idle, Collecting, Holding}
@@ -17,7 +18,7 @@ use Rattle.plain.specs.declared.Phase.the-variants.{Idle, Collecting, Holding}
 pub lowest-below : (n set i : ℕ) → set < 2 ^ n → lowestFrom set i < places → lowestFrom set i < n
 lowest-below n set i small h = member-station n set (lowestFrom set i) small (lowest-from set i .found h .1)
 
-module _ (table : List ℕ) (q h j set : ℕ) (is : quorum table q ≡ set) (next : ℕ) (found : next ≡ lowestFrom set (j + 1)) where
+module _ (table : List ℕ) (q : ℕ) (h : Units) (j set : ℕ) (is : quorum table q ≡ set) (next : ℕ) (found : next ≡ lowestFrom set (j + 1)) where
   above : lowestFrom (quorum table q) (suc j) ≡ next
   above = ap (λ (x : ℕ). lowestFrom x (suc j)) is ∙ ap (lowestFrom set) (sym (add-one j)) ∙ sym found
 
@@ -34,14 +35,14 @@ module _ (table : List ℕ) (j : ℕ) {p : Phase} where
   unfolding taken
   taken-idle e = rw e
 
-  pub taken-holding : {q h : ℕ} → p ≡ Holding q h → taken table j p ≡ Taken.drops
+  pub taken-holding : {q : ℕ} {h : Units} → p ≡ Holding q h → taken table j p ≡ Taken.drops
   unfolding taken
   taken-holding {q} {h} e = rw e
 
-  pub taken-elsewhere : {q h m : ℕ} → p ≡ Collecting q h m → (m ≡ j → ⊥) → taken table j p ≡ Taken.drops
+  pub taken-elsewhere : {q : ℕ} {h : Units} {m : ℕ} → p ≡ Collecting q h m → (m ≡ j → ⊥) → taken table j p ≡ Taken.drops
   unfolding taken
   taken-elsewhere {q} {h} {m} e d = rw (e, ne-eqb m j d)
 
-  pub taken-here : {q h m : ℕ} → p ≡ Collecting q h m → m ≡ j → taken table j p ≡ onward table q h j
+  pub taken-here : {q : ℕ} {h : Units} {m : ℕ} → p ≡ Collecting q h m → m ≡ j → taken table j p ≡ onward table q h j
   unfolding taken
   taken-here {q} {h} {m} e d = rw (e, eq-eqb m j d)

@@ -5,6 +5,8 @@ use mathlib.Core.List.{List}
 use mathlib.Core.Path.{_≡_, refl, sym, ap, _∙_}
 use Prim.Native.Nat.{ℕ, _<_}
 use lib.ListN.{length}
+use Rattle.units.specs.Units.{noUnits}
+use Rattle.units.specs.declared.Units.{Units}
 use Rattle.plain.specs.Answer.{Answer, refused, done}
 use Rattle.plain.specs.Asking.{askPasses, asking}
 use Rattle.plain.specs.Down.{Taken, enters, downPasses, receivedAs, down}
@@ -36,11 +38,11 @@ module _ (r : Record) (s j : ℕ) (rest : Lanes) {t : Taken} (receives : Receive
   full-as : downPasses (view r) s t ≡ true → down (view r) s j ≡ refused (view r) noPlace
   full-as f = down-full (view r) s j (delivers r s j (receives .takes)) (rw (receives .made) f)
 
-  done-as : downPasses (view r) s t ≡ false → down (view r) s j ≡ done (enters t) 0 (receivedAs (view r) s j lane t)
+  done-as : downPasses (view r) s t ≡ false → down (view r) s j ≡ done (enters t) noUnits (receivedAs (view r) s j lane t)
   done-as f = rw (receives .made) at (down-done (view r) s j (delivers r s j (receives .takes)) (rw (receives .made) f))
 
 -- it asks: what asking answers on the record without the message, a refusal hands back the whole
-module _ (r : Record) (s j : ℕ) (rest : Lanes) (q h m : ℕ) (receives : Receives r s j (lanesOf (r .n) rest) (Taken.asks q h m))
+module _ (r : Record) (s j : ℕ) (rest : Lanes) (q : ℕ) (h : Units) (m : ℕ) (receives : Receives r s j (lanesOf (r .n) rest) (Taken.asks q h m))
     (a : Answer) (is : a ≡ askAnswer (view (storeDown rest r)) s q h m) where
   pub asks-full : (a .refusal ≡ 0 → ⊥) → down (view r) s j ≡ refused (view r) noPlace
   unfolding view
@@ -56,17 +58,17 @@ module _ (r : Record) (s j : ℕ) (rest : Lanes) (q h m : ℕ) (receives : Recei
   pub asks-done : a .refusal ≡ 0 → down (view r) s j ≡ a
   unfolding view
   asks-done none =
-      done-as r s j rest receives (room none) ∙ ap (done 0 0) states
+      done-as r s j rest receives (room none) ∙ ap (done noUnits noUnits) states
       ∙ sym (is ∙ ask-room (view (storeDown rest r)) s q h m (room none))
 
 -- it holds
-module _ (r : Record) (s j : ℕ) (rest : Lanes) (q h : ℕ) (receives : Receives r s j (lanesOf (r .n) rest) (Taken.holds q h)) (long : s < length (r .stations)) where
+module _ (r : Record) (s j : ℕ) (rest : Lanes) (q : ℕ) (h : Units) (receives : Receives r s j (lanesOf (r .n) rest) (Taken.holds q h)) (long : s < length (r .stations)) where
   held : receivedAs (view r) s j (receives .takes .took .lane) (Taken.holds q h) ≡ view (storePhase s (Holding q h) (storeDown rest r))
   unfolding receivedAs
   held = sym (phase-stored (storeDown rest r) s (Holding q h) (receives .takes .took .station) long ∙ rw (without-is r s j rest receives))
 
-  pub holds-done : down (view r) s j ≡ done h 0 (view (storePhase s (Holding q h) (storeDown rest r)))
-  holds-done = done-as r s j rest receives refl ∙ ap (done h 0) held
+  pub holds-done : down (view r) s j ≡ done h noUnits (view (storePhase s (Holding q h) (storeDown rest r)))
+  holds-done = done-as r s j rest receives refl ∙ ap (done h noUnits) held
 
 -- it drops the message
 module _ (r : Record) (s j : ℕ) (rest : Lanes) (receives : Receives r s j (lanesOf (r .n) rest) Taken.drops) where
@@ -74,5 +76,5 @@ module _ (r : Record) (s j : ℕ) (rest : Lanes) (receives : Receives r s j (lan
   unfolding receivedAs
   dropped = sym (without-is r s j rest receives)
 
-  pub drops-done : down (view r) s j ≡ done 0 0 (view (storeDown rest r))
-  drops-done = done-as r s j rest receives refl ∙ ap (done 0 0) dropped
+  pub drops-done : down (view r) s j ≡ done noUnits noUnits (view (storeDown rest r))
+  drops-done = done-as r s j rest receives refl ∙ ap (done noUnits noUnits) dropped

@@ -11,6 +11,8 @@ use Rattle.lists.proofs.Cuts.{length-cut}
 use Rattle.lists.proofs.Tests.{and-left}
 use Rattle.quorum.specs.Limits.{mostStations, mostQuorums}
 use Rattle.quorum.proofs.Promises.{Limits, limits-kept}
+use Rattle.units.specs.Units.{askedWith}
+use Rattle.units.specs.declared.Units.{Units}
 use Rattle.plain.specs.InRange.{goesUp, goesDown, phaseIn, arbiterIn, inRange}
 use Rattle.plain.specs.Lanes.{upPlaces, downPlaces}
 use Rattle.plain.specs.declared.Phase.the-variants.{Collecting, Holding}
@@ -26,9 +28,9 @@ module _ (r : Record) where
   unfolding view
   table-length = length-cut 0 (r .quorums) (r .table)
 
-  pub limits : inRange (view r) ≡ true → Limits (r .n) (r .stock) (tableOf r)
+  pub limits : inRange (view r) ≡ true → Limits (r .n) (askedWith (r .stock)) (tableOf r)
   unfolding view
-  limits e = limits-kept (r .n) (r .stock) (tableOf r) (ranged (view r) e .limits)
+  limits e = limits-kept (r .n) (askedWith (r .stock)) (tableOf r) (ranged (view r) e .limits)
 
   pub few : inRange (view r) ≡ true → r .n ≤ mostStations
   few e = limits e .stations .1
@@ -45,7 +47,7 @@ module _ (r : Record) where
   phase-in e s h = rw (phases-at (r .n) (r .stations) s h) at (ranged (view r) e .phases s h)
 
   -- a station that collects or holds works with a quorum of the table
-  collects : (q h m : ℕ) → phaseIn (r .n) (r .stock) (tableOf r) (Collecting q h m) ≡ true → q < length (tableOf r)
+  collects : (q : ℕ) (h : Units) (m : ℕ) → phaseIn (r .n) (r .stock) (tableOf r) (Collecting q h m) ≡ true → q < length (tableOf r)
   unfolding phaseIn
   collects q h m t = ltb-true q (length (tableOf r)) (and-left (ltb q (length (tableOf r))) _ t)
 
@@ -54,11 +56,11 @@ module _ (r : Record) where
       let exists = collects q u m (rw p at (phase-in e s h)) in
       (exists, limits e .members q exists .1)
 
-  holds-in : (q h : ℕ) → phaseIn (r .n) (r .stock) (tableOf r) (Holding q h) ≡ true → q < length (tableOf r)
+  holds-in : (q : ℕ) (h : Units) → phaseIn (r .n) (r .stock) (tableOf r) (Holding q h) ≡ true → q < length (tableOf r)
   unfolding phaseIn
   holds-in q h t = ltb-true q (length (tableOf r)) (and-left (ltb q (length (tableOf r))) _ t)
 
-  pub holds : inRange (view r) ≡ true → (s : ℕ) → s < r .n → {q h : ℕ} → getD (r .stations) s noStation .phase ≡ Holding q h → q < r .quorums
+  pub holds : inRange (view r) ≡ true → (s : ℕ) → s < r .n → {q : ℕ} {h : Units} → getD (r .stations) s noStation .phase ≡ Holding q h → q < r .quorums
   holds e s l {q} {h} p = omega (arith, holds-in q h (rw p at (phase-in e s l)), length-cut 0 (r .quorums) (r .table))
 
   -- lanes keep their limits

@@ -7,6 +7,7 @@ use Prim.Native.Nat.{ℕ}
 use borrow.Author.Tests.{ne-eqb}
 use Rattle.lists.specs.Broken.{_when_, firstBroken}
 use Rattle.lists.proofs.Broken.{first-earlier}
+use Rattle.units.specs.declared.Units.{Units}
 use Rattle.plain.specs.Answer.{refused, answered}
 use Rattle.plain.specs.Delivery.{laneTests, deliveryRefusal}
 use Rattle.plain.specs.Down.{down}
@@ -22,7 +23,7 @@ use Rattle.records.specs.declared.Record.{Record}
 use Rattle.calls.specs.Inner.Parts.{Takes}
 
 -- a record in range, and 8 or 13
-lane-refused : (st : State) (s j : ℕ) (lane : List Message) (full : Message → Bool) (entered left : ℕ) (next : State) (r : ℕ)
+lane-refused : (st : State) (s j : ℕ) (lane : List Message) (full : Message → Bool) (entered left : Units) (next : State) (r : ℕ)
     → inRange st ≡ true → r ≡ firstBroken (laneTests (st .n) s j lane) → (r ≡ 0 → ⊥) → delivery st s j lane full entered left next ≡ refused st r
 unfolding answered deliveryRefusal
 lane-refused st s j lane full entered left next r range is some =

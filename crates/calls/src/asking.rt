@@ -12,9 +12,10 @@ use plain::Phase;
 use records::Record;
 use records::Station;
 use records::UP_PLACES;
+use units::Units;
 
 // REQUEST goes up to the member, and the station collects from it.
-pub(crate) fn ask(r: Record, s: usize, quorum: u8, units: u8, member: u8) -> Answer
+pub(crate) fn ask(r: Record, s: usize, quorum: u8, units: Units, member: u8) -> Answer
     requires { ⌜ (r .n ≤ mostStations) × (s < r .n) × (member < r .n) ⌝ }
     ensures answer { λ a. ⌜ answerOf a ≡ askAnswer (view r) s quorum units member ⌝ }
     ensures refused { λ a. ⌜ (0 < a .refusal → a .«record» ≡ r) ⌝ }
@@ -35,5 +36,5 @@ pub(crate) fn ask(r: Record, s: usize, quorum: u8, units: u8, member: u8) -> Ans
         },
     };
     next.stations[s] = station;
-    crate::done(next, 0, 0)
+    crate::done(next)
 }

@@ -18,16 +18,24 @@ use plain::Phase;
 use records::Lanes;
 use records::Record;
 use records::Station;
+use units::Units;
 
 // It asks the next member of its quorum, it holds its units, or it drops the message.
 pub(crate) enum Taking {
-    Asks { quorum: u8, units: u8, member: u8 },
-    Holds { quorum: u8, units: u8 },
+    Asks {
+        quorum: u8,
+        units: Units,
+        member: u8,
+    },
+    Holds {
+        quorum: u8,
+        units: Units,
+    },
     Drops,
 }
 
 // With a member above j left in the quorum's set, the lowest such member is asked; otherwise the station holds.
-fn onward(set: u16, n: usize, j: usize, quorum: u8, units: u8) -> Taking
+fn onward(set: u16, n: usize, j: usize, quorum: u8, units: Units) -> Taking
     requires { ⌜ (set < 2 ^ n) × (j < mostStations) ⌝ }
     ensures taking { λ r. ⌜ ((table : List ℕ) → quorumOf table quorum ≡ set → takenOf r ≡ onwardOf table quorum units j) ⌝ }
     ensures within { λ r. ⌜ within n r ≡ true ⌝ }
@@ -96,7 +104,7 @@ fn made_of(
 }
 
 // The station asks the next member. `rest` are the lanes down without the message.
-fn asks(r: Record, s: usize, j: usize, rest: Lanes, quorum: u8, units: u8, member: u8) -> Answer
+fn asks(r: Record, s: usize, j: usize, rest: Lanes, quorum: u8, units: Units, member: u8) -> Answer
     requires { ⌜ Receives r s j (lanesOf (r .n) rest) (Taken.asks quorum units member) × (member < r .n) ⌝ }
     ensures answer { λ a. ⌜ answerOf a ≡ down (view r) s j ⌝ }
     ensures refused { λ a. ⌜ (0 < a .refusal → a .«record» ≡ r) ⌝ }
@@ -111,7 +119,7 @@ fn asks(r: Record, s: usize, j: usize, rest: Lanes, quorum: u8, units: u8, membe
 }
 
 // The station holds, and its units are entered.
-fn holds(r: Record, s: usize, j: usize, rest: Lanes, quorum: u8, units: u8) -> Answer
+fn holds(r: Record, s: usize, j: usize, rest: Lanes, quorum: u8, units: Units) -> Answer
     requires { ⌜ Receives r s j (lanesOf (r .n) rest) (Taken.holds quorum units) ⌝ }
     ensures answer { λ a. ⌜ answerOf a ≡ down (view r) s j ⌝ }
     ensures accepted { λ a. ⌜ a .refusal ≡ 0 ⌝ }
@@ -122,7 +130,7 @@ fn holds(r: Record, s: usize, j: usize, rest: Lanes, quorum: u8, units: u8) -> A
         phase: Phase::Holding { quorum, units },
     };
     next.stations[s] = station;
-    crate::done(next, units, 0)
+    crate::done_with(next, units, units::no_units())
 }
 
 // The message is dropped.
@@ -133,7 +141,7 @@ fn drops(r: Record, s: usize, j: usize, rest: Lanes) -> Answer
 {
     let mut next = r;
     next.down = rest;
-    crate::done(next, 0, 0)
+    crate::done(next)
 }
 
 // The message m reaches station s.

@@ -7,9 +7,11 @@ ghost use Rattle.plain.specs.Release.{release as releaseOf};
 ghost use Rattle.plain.specs.Request.{isIdle, request as requestOf};
 ghost use Rattle.plain.specs.Up.{up as upOf};
 ghost use Rattle.records.specs.View.{view};
+ghost use Rattle.units.specs.Units.{noUnits, unitsOf};
 ghost use Rattle.calls.specs.Answers.{answerOf};
 use plain::Phase;
 use records::Record;
+use units::Units;
 
 mod asking;
 mod downs;
@@ -22,8 +24,8 @@ mod ups;
 // What a call answers. A refused call enters and leaves 0 units and hands back the record that it was given.
 pub struct Answer {
     pub refusal: u8,
-    pub entered: u8,
-    pub left: u8,
+    pub entered: Units,
+    pub left: Units,
     pub record: Record,
 }
 
@@ -34,16 +36,17 @@ fn refuse(r: Record, refusal: u8) -> Answer
     ensures answer { λ a. ⌜ answerOf a ≡ refusedBy (view r) refusal ⌝ }
     ensures same { λ a. ⌜ a .«record» ≡ r ⌝ }
 {
+    let none = units::no_units();
     Answer {
         refusal,
-        entered: 0,
-        left: 0,
+        entered: none,
+        left: none,
         record: r,
     }
 }
 
-// A call that is done, with so many units entered and left.
-fn done(r: Record, entered: u8, left: u8) -> Answer
+// A call that is done, with these units entered and left.
+fn done_with(r: Record, entered: Units, left: Units) -> Answer
     ensures answer { λ a. ⌜ answerOf a ≡ doneWith entered left (view r) ⌝ }
     ensures accepted { λ a. ⌜ a .refusal ≡ 0 ⌝ }
 {
@@ -53,6 +56,15 @@ fn done(r: Record, entered: u8, left: u8) -> Answer
         left,
         record: r,
     }
+}
+
+// A call that is done and neither enters nor leaves units.
+fn done(r: Record) -> Answer
+    ensures answer { λ a. ⌜ answerOf a ≡ doneWith noUnits noUnits (view r) ⌝ }
+    ensures accepted { λ a. ⌜ a .refusal ≡ 0 ⌝ }
+{
+    let none = units::no_units();
+    done_with(r, none, none)
 }
 
 fn is_idle(p: Phase) -> bool
@@ -72,9 +84,9 @@ fn is_idle(p: Phase) -> bool
     }
 }
 
-// Station s asks for h units by quorum q: it collects, and REQUEST goes up to the quorum's lowest member.
+// Station s asks for so many units by quorum q: it collects, and REQUEST goes up to the quorum's lowest member.
 pub fn request(r: Record, s: usize, q: usize, h: usize) -> Answer
-    ensures answer { λ a. ⌜ answerOf a ≡ requestOf (view r) s q h ⌝ }
+    ensures answer { λ a. ⌜ answerOf a ≡ requestOf (view r) s q (unitsOf h) ⌝ }
     ensures refused { λ a. ⌜ (0 < a .refusal → a .«record» ≡ r) ⌝ }
 {
     if !records::in_range(r) {
@@ -86,7 +98,9 @@ pub fn request(r: Record, s: usize, q: usize, h: usize) -> Answer
     if r.quorums as usize <= q {
         return refuse(r, refusals::NO_SUCH_QUORUM);
     }
-    if !quorum::limits::up_to(r.stock as usize, h) {
+    let stock = r.stock;
+    let u = units::units_of(h);
+    if !units::request_in(stock, u) {
         return refuse(r, refusals::BAD_UNITS);
     }
     let station = r.stations[s];
@@ -95,7 +109,7 @@ pub fn request(r: Record, s: usize, q: usize, h: usize) -> Answer
         return refuse(r, refusals::NOT_IDLE);
     }
     let member = stations::lowest_from(r.table[q], 0);
-    asking::ask(r, s, q as u8, h as u8, member as u8)
+    asking::ask(r, s, q as u8, u, member as u8)
 }
 
 // The oldest message of station s to arbiter j is delivered.

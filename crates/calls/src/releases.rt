@@ -17,6 +17,7 @@ use records::Record;
 use records::Row;
 use records::Station;
 use records::UP_PLACES;
+use units::Units;
 
 pub(crate) struct Released {
     pub full: bool,
@@ -69,7 +70,7 @@ fn release_row(w: Row, n: usize, set: u16) -> Released
 }
 
 // The station is idle, and its units are left.
-pub(crate) fn give_back(r: Record, s: usize, quorum: u8, units: u8) -> Answer
+pub(crate) fn give_back(r: Record, s: usize, quorum: u8, units: Units) -> Answer
     requires { ⌜ Releases (view r) s quorum units × (s < mostStations) × (quorum < mostQuorums) ⌝ }
     ensures answer { λ a. ⌜ answerOf a ≡ release (view r) s ⌝ }
     ensures refused { λ a. ⌜ (0 < a .refusal → a .«record» ≡ r) ⌝ }
@@ -87,5 +88,5 @@ pub(crate) fn give_back(r: Record, s: usize, quorum: u8, units: u8) -> Answer
     next.up = up;
     let station = Station { phase: Phase::Idle };
     next.stations[s] = station;
-    crate::done(next, 0, units)
+    crate::done_with(next, units::no_units(), units)
 }

@@ -21,7 +21,8 @@ pub(crate) fn deliver_up(r: Record, s: usize, j: usize, m: Message, rest: Lanes)
     let mut next = r;
     next.up = rest;
     let before = r.arbiters[j];
-    let delivery = arbiters::deliver(before, n, r.stock as usize, s, m);
+    let stock = r.stock;
+    let delivery = arbiters::deliver(before, n, stock, s, m);
     if delivery.refusal != refusals::NO_REFUSAL {
         return crate::refuse(r, crate::NO_PLACE); // in the line
     }
@@ -35,5 +36,5 @@ pub(crate) fn deliver_up(r: Record, s: usize, j: usize, m: Message, rest: Lanes)
     let lanes = sent.lanes;
     next.arbiters[j] = after;
     next.down = lanes;
-    crate::done(next, 0, 0)
+    crate::done(next)
 }

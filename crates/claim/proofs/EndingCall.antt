@@ -8,6 +8,7 @@ use prog.Memory.{Memory}
 use ghost.Model as Closed
 use contract.BorrowModel.{ghost₀}
 use denote.Struct.Laws.{makes}
+use Rattle.units.specs.Units.{numberOf}
 use Rattle.plain.specs.Run.{Call}
 use Rattle.records.specs.declared.Record.{Record}
 use Rattle.records.proofs.Record.{the-row as the-record}
@@ -42,7 +43,7 @@ pub call-ends : (r : Record) (w : Val) → IsRecord r w → (c : Call) → Fit (
 call-ends r w is (Call.Request s q h) fits σ =
     returns request-kinds.ps request-kinds.r request.Asked request.Learnt request-code.routine
     request.known (request-met.met Closed.𝓤 Closed.H Closed.model ghost₀ 𝓡₀) tt (record-had, (number-had w64, (number-had w64, (number-had w64, tt))))
-    (r, (s, (q, (h, tt)))) (w ∷ [], (vint w64 s ∷ [], (vint w64 q ∷ [], (vint w64 h ∷ [], tt)))) (is, ((refl, fits .0), ((refl, fits .1 .0), ((refl, fits .1 .1 .0), tt)))) tt
+    (r, (s, (q, (numberOf h, tt)))) (w ∷ [], (vint w64 s ∷ [], (vint w64 q ∷ [], (vint w64 (numberOf h) ∷ [], tt)))) (is, ((refl, fits .0), ((refl, fits .1 .0), ((refl, fits .1 .1 .0), tt)))) tt
     (LearntOf r (Call.Request s q h)) (λ z ws l. l) σ
 call-ends r w is (Call.Up s j) fits σ =
     returns up-kinds.ps up-kinds.r up.Asked up.Learnt up-code.routine

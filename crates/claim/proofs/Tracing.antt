@@ -2,7 +2,9 @@
 -- Assumes nothing.
 use mathlib.Core.List.{List, _∷_, map}
 use mathlib.Core.Path.{_≡_, refl, ap, _∙_}
+use Rattle.units.proofs.Numbers.{units-number}
 use Rattle.plain.specs.Answer.{Answer as PlainAnswer}
+use Rattle.plain.specs.Request.{request}
 use Rattle.plain.specs.Run.{Call, call, run}
 use Rattle.records.specs.View.{view}
 use Rattle.records.specs.declared.Record.{Record}
@@ -13,7 +15,7 @@ use Rattle.claim.specs.Trace.{LearntOf, Trace}
 -- a call's own contract says that its answer is the plain machine's
 learnt-call : (r : Record) (c : Call) (a : Answer) → LearntOf r c a → answerOf a ≡ call (view r) c
 unfolding call
-learnt-call r (Call.Request s q h) a e = e .0
+learnt-call r (Call.Request s q h) a e = e .0 ∙ ap (request (view r) s q) (units-number h)
 learnt-call r (Call.Up s j) a e = e .0
 learnt-call r (Call.Down s j) a e = e .0
 learnt-call r (Call.Release s) a e = e .0

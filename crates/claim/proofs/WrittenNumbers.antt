@@ -1,10 +1,13 @@
 -- The numbers that a lent list of calls gets back are those of the plain machine's answers, and so are the units in them.
 -- Assumes nothing.
 use mathlib.Core.List.{List, [], _∷_}
-use mathlib.Core.Path.{_≡_, refl, sym, ap, _∙_}
+use mathlib.Core.Path.{_≡_, refl, sym, ap, ap₂, _∙_}
 use Prim.Native.Nat.{ℕ, _+_, _*_}
 use lib.ListN.{length, take, drop}
 use lib.Seq.{take-at}
+use Rattle.units.specs.Units.{numberOf, numbered}
+use Rattle.units.specs.declared.Units.{Units}
+use Rattle.units.proofs.Numbers.{amount-number}
 use Rattle.plain.specs.Answer.{Answer}
 use Rattle.plain.specs.Run.{run, entered, left, WithinStock}
 use Rattle.plain.specs.State.{State}
@@ -13,18 +16,20 @@ use Rattle.machine.specs.Performing.{callsOf, wordsOf, listRefusal, answersIn}
 use Rattle.machine.proofs.AnswerWords.{words-length}
 use Rattle.claim.specs.Claim.{unitsEntered, unitsLeft, NumbersWithin}
 
-words-entered : (answers : List Answer) → unitsEntered (wordsOf answers) ≡ entered answers
+words-entered : (answers : List Answer) → unitsEntered (wordsOf answers) ≡ entered numbered answers
 unfolding wordsOf unitsEntered entered
 words-entered [] = refl
-words-entered (a ∷ answers) = ap (λ (x : ℕ). a .entered + x) (words-entered answers)
+words-entered (a ∷ answers) = ap₂ _+_ (sym (amount-number (a .entered))) (words-entered answers)
 
-words-left : (answers : List Answer) → unitsLeft (wordsOf answers) ≡ left answers
+words-left : (answers : List Answer) → unitsLeft (wordsOf answers) ≡ left numbered answers
 unfolding wordsOf unitsLeft left
 words-left [] = refl
-words-left (a ∷ answers) = ap (λ (x : ℕ). a .left + x) (words-left answers)
+words-left (a ∷ answers) = ap₂ _+_ (sym (amount-number (a .left))) (words-left answers)
 
-pub words-within : (k : ℕ) (answers : List Answer) → WithinStock k answers → NumbersWithin k (wordsOf answers)
-words-within k answers w = (w .0, w .1, words-entered answers ∙ w .2 ∙ ap (λ (l : ℕ). l + w .0) (sym (words-left answers)))
+pub words-within : (stock : Units) (answers : List Answer) → WithinStock stock answers → NumbersWithin (numberOf stock) (wordsOf answers)
+words-within stock answers w =
+    let (d, few, is) = w numbered in
+    (d, rw (amount-number stock) at few, words-entered answers ∙ is ∙ ap (λ (l : ℕ). l + d) (sym (words-left answers)))
 
 -- of a list that is not refused the numbers of its answers are the front of what was lent
 pub written-front : (st : State) (calls out : List ℕ) → listRefusal calls (length out) ≡ 0

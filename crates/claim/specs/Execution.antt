@@ -6,6 +6,7 @@ use mir.Val.{Val, Vals, vunit, vbool, vint, vfloat, vptr, vstruct, vnil, vcons}
 use prog.Memory.{Memory}
 use prog.Routine.{Routine, ends}
 use denote.Laws.{Is}
+use Rattle.units.specs.Units.{numberOf}
 use Rattle.plain.specs.Run.{Call}
 use Rattle.records.specs.declared.Record.{Record}
 use Rattle.records.proofs.Record.{the-row as the-record}
@@ -40,7 +41,7 @@ routineOf (Call.Release s) = release.routine
 
 -- the numbers that it is passed behind the record
 abbrev pub argumentsOf : Call → List ℕ
-argumentsOf (Call.Request s q h) = s ∷ q ∷ h ∷ []
+argumentsOf (Call.Request s q h) = s ∷ q ∷ numberOf h ∷ []
 argumentsOf (Call.Up s j) = s ∷ j ∷ []
 argumentsOf (Call.Down s j) = s ∷ j ∷ []
 argumentsOf (Call.Release s) = s ∷ []

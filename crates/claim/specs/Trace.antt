@@ -1,5 +1,6 @@
 -- The answers that the program's own functions give to a list of calls, each on the record that the one before returned.
 use mathlib.Core.List.{List, [], _∷_}
+use Rattle.units.specs.Units.{numberOf}
 use Rattle.plain.specs.Run.{Call}
 use Rattle.records.specs.declared.Record.{Record}
 use Rattle.calls.specs.declared.Answer.{Answer}
@@ -11,7 +12,7 @@ use Rattle.calls.proofs.up.Reads as up
 -- What the checker has learnt of a call of an exported function: its contract in the source, and nothing else. Arguments by value are the
 -- same at the call and at its end.
 abbrev pub LearntOf : Record → Call → Answer → Type 0
-LearntOf r (Call.Request s q h) a = request.Learnt tt (r, (s, (q, (h, tt)))) a (r, (s, (q, (h, tt))))
+LearntOf r (Call.Request s q h) a = request.Learnt tt (r, (s, (q, (numberOf h, tt)))) a (r, (s, (q, (numberOf h, tt))))
 LearntOf r (Call.Up s j) a = up.Learnt tt (r, (s, (j, tt))) a (r, (s, (j, tt)))
 LearntOf r (Call.Down s j) a = down.Learnt tt (r, (s, (j, tt))) a (r, (s, (j, tt)))
 LearntOf r (Call.Release s) a = release.Learnt tt (r, (s, tt)) a (r, (s, tt))

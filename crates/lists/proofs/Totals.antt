@@ -1,7 +1,7 @@
 -- Sums over the numbers below a bound.
 -- Assumes nothing.
 use mathlib.Core.Logic.{by-cases}
-use mathlib.Core.Path.{_≡_, refl, ap₂}
+use mathlib.Core.Path.{_≡_, refl, ap, ap₂}
 use Prim.Native.Nat.{ℕ, zero, suc, _+_, _≤_, _<_}
 use native.Mathlib.Decide.{ℕ-discrete}
 use native.Mathlib.Nat.{add-comm}
@@ -37,28 +37,34 @@ unfolding total
 total-none f zero h = refl
 total-none f (suc n) h = let last = h n (omega arith) in let rest = total-none f n (λ i p. h i (omega arith)) in omega arith
 
--- one value changed: below the bound, and anywhere
-total-beyond : (f : ℕ → ℕ) (a x n : ℕ) → n ≤ a → total (at f a x) n ≡ total f n
-total-beyond f a x n h = total-same (at f a x) f n (λ i p. at-other f a x i (λ e. omega arith))
-
-pub total-at : (f : ℕ → ℕ) (a x n : ℕ) → a < n → total (at f a x) n + f a ≡ total f n + x
+-- numbers from m on that have no value
+pub total-past : (f : ℕ → ℕ) (m n : ℕ) → m ≤ n → ((i : ℕ) → m ≤ i → i < n → f i ≡ 0) → total f n ≡ total f m
 unfolding total
-total-at f a x zero h = absurd (omega arith)
-total-at f a x (suc n) h =
-    by-cases (ℕ-discrete a n)
-    (λ (e : a ≡ n). rw e (let here = at-same f n x in let rest = total-beyond f n x n (omega arith) in omega arith))
-    (λ (d : a ≡ n → ⊥).
-    let here = at-other f a x n (λ e. omega arith) in
-    let rest = total-at f a x n (omega arith) in
-    omega arith)
+total-past f m zero h none = let e : m ≡ 0 = omega arith in rw e
+total-past f m (suc n) h none =
+    by-cases (ℕ-discrete m (suc n)) (λ (e : m ≡ suc n). rw e)
+    (λ (d : m ≡ suc n → ⊥). let last = none n (omega arith) (omega arith) in let rest = total-past f m n (omega arith) (λ i l p. none i l (omega arith)) in omega arith)
 
-pub total-at-le : (f : ℕ → ℕ) (a x n : ℕ) → total (at f a x) n ≤ x + total f n
-unfolding total
-total-at-le f a x zero = omega arith
-total-at-le f a x (suc n) =
-    by-cases (ℕ-discrete n a)
-    (λ (e : n ≡ a). rw e (let here = at-same f a x in let rest = total-beyond f a x a (omega arith) in omega arith))
-    (λ (d : n ≡ a → ⊥). let here = at-other f a x n d in let rest = total-at-le f a x n in omega arith)
+-- what v reads off g, changed at one place: below the bound, and anywhere
+module _ {A : Type 0} (v : A → ℕ) (g : ℕ → A) (a : ℕ) (x : A) where
+  total-beyond : (n : ℕ) → n ≤ a → total (λ i. v (at g a x i)) n ≡ total (λ i. v (g i)) n
+  total-beyond n h = total-same (λ i. v (at g a x i)) (λ i. v (g i)) n (λ i p. ap v (at-other g a x i (λ e. omega arith)))
+
+  pub total-at : (n : ℕ) → a < n → total (λ i. v (at g a x i)) n + v (g a) ≡ total (λ i. v (g i)) n + v x
+  unfolding total
+  total-at zero h = absurd (omega arith)
+  total-at (suc n) h =
+      by-cases (ℕ-discrete n a)
+      (λ (e : n ≡ a). rw e (let here = ap v (at-same g a x) in let rest = total-beyond a (omega arith) in omega arith))
+      (λ (d : n ≡ a → ⊥). let here = ap v (at-other g a x n d) in let rest = total-at n (omega arith) in omega arith)
+
+  pub total-at-le : (n : ℕ) → total (λ i. v (at g a x i)) n ≤ v x + total (λ i. v (g i)) n
+  unfolding total
+  total-at-le zero = omega arith
+  total-at-le (suc n) =
+      by-cases (ℕ-discrete n a)
+      (λ (e : n ≡ a). rw e (let here = ap v (at-same g a x) in let rest = total-beyond a (omega arith) in omega arith))
+      (λ (d : n ≡ a → ⊥). let here = ap v (at-other g a x n d) in let rest = total-at-le n in omega arith)
 
 -- one number more
 pub total-more : (f : ℕ → ℕ) (i : ℕ) → total f (i + 1) ≡ total f i + f i

@@ -14,6 +14,7 @@ use lib.Seq.{sets, length-sets}
 use borrow.Author.Tests.{eqb-true}
 use Rattle.lists.proofs.Joined.{sets-append, sets-front}
 use Rattle.lists.proofs.Tests.{and-right}
+use Rattle.units.specs.Units.{numberOf}
 use Rattle.plain.specs.Answer.{Answer}
 use Rattle.plain.specs.Run.{call, run, after}
 use Rattle.plain.specs.State.{State}
@@ -55,7 +56,7 @@ module _ (calls lent : List ℕ) (st₀ : State) where
     -- one call more
     module _ (h : i < length calls) (a : Answer) (answered : a ≡ call st (callOf (getD calls i 0) (getD calls (i + 1) 0) (getD calls (i + 2) 0) (getD calls (i + 3) 0))) where
       abbrev numbers : List ℕ
-      numbers = a .refusal ∷ a .entered ∷ a .left ∷ []
+      numbers = a .refusal ∷ numberOf (a .entered) ∷ numberOf (a .left) ∷ []
 
       words-next : wordsOf (run st₀ (callsOf calls)) ≡ (going .written ++ numbers) ++ wordsOf (run (a .state) (callsOf (drop (i + 4) calls)))
       unfolding run wordsOf
@@ -68,16 +69,16 @@ module _ (calls lent : List ℕ) (st₀ : State) where
       unfolding after
       state-next = going .state ∙ rw (calls-next calls i (whole h)) (ap (λ (x : Answer). after (x .state) (callsOf (drop (i + 4) calls))) (sym answered))
 
-      stored-next : set (set (set out o (a .refusal)) (o + 1) (a .entered)) (o + 2) (a .left) ≡ sets lent 0 (going .written ++ numbers)
+      stored-next : set (set (set out o (a .refusal)) (o + 1) (numberOf (a .entered))) (o + 2) (numberOf (a .left)) ≡ sets lent 0 (going .written ++ numbers)
       stored-next =
-          ap (λ (l : List ℕ). set (set (set l o (a .refusal)) (o + 1) (a .entered)) (o + 2) (a .left)) (going .stored)
+          ap (λ (l : List ℕ). set (set (set l o (a .refusal)) (o + 1) (numberOf (a .entered))) (o + 2) (numberOf (a .left))) (going .stored)
           ∙ rw (add-one o, two)
           (sym (sets-append lent 0 (going .written) numbers ∙ rw (zero-add (length (going .written)), going .long)))
         where
           two : o + 2 ≡ suc (suc o)
           two = omega arith
 
-      pub going-more : (next : List ℕ) → next ≡ set (set (set out o (a .refusal)) (o + 1) (a .entered)) (o + 2) (a .left) → Going calls lent st₀ next (a .state) (i + 4) (o + 3)
+      pub going-more : (next : List ℕ) → next ≡ set (set (set out o (a .refusal)) (o + 1) (numberOf (a .entered))) (o + 2) (numberOf (a .left)) → Going calls lent st₀ next (a .state) (i + 4) (o + 3)
       going-more next is =
           record {
             within = whole h;

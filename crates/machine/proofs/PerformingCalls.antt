@@ -12,6 +12,7 @@ use lib.ListN.{length, getD, drop, length-drop}
 use borrow.Author.Tests.{le-ltb, eq-eqb, ne-eqb}
 use Rattle.lists.proofs.Joined.{drop-four}
 use Rattle.lists.proofs.Tests.{clash, and-right}
+use Rattle.units.specs.Units.{unitsOf}
 use Rattle.plain.specs.Run.{Call}
 use Rattle.machine.specs.Performing.{formed, wellFormed, callOf, callsOf}
 
@@ -39,7 +40,7 @@ module _ (what w h : ℕ) where
       (λ (d₂ : what ≡ 2 → ⊥). rw (z, ne-eqb what 0 d, ne-eqb what 1 d₁, ne-eqb what 2 d₂, ne-eqb what 3 r, le-ltb what 3 (omega arith))))
 
   module _ (s : ℕ) where
-    pub call-request : what ≡ 0 → callOf what s w h ≡ Call.Request s w h
+    pub call-request : what ≡ 0 → callOf what s w h ≡ Call.Request s w (unitsOf h)
     unfolding callOf
     call-request e = rw (eq-eqb what 0 e)
 

@@ -4,6 +4,8 @@ use mathlib.Core.List.{List, []}
 use Prim.Native.Nat.{ℕ}
 use lib.Dec.{eqb}
 use Rattle.quorum.specs.Refusal.{refusal}
+use Rattle.units.specs.Units.{noUnits, askedWith}
+use Rattle.units.specs.declared.Units.{Units}
 use Rattle.plain.specs.State.{State, fresh}
 use Rattle.records.specs.View.{view}
 use Rattle.machine.specs.declared.Opened.{Opened}
@@ -15,12 +17,12 @@ pub record Opening : Type 0 where
 
 -- "the empty record (n = 0)"
 abbrev pub emptyRecord : State
-emptyRecord = fresh 0 0 []
+emptyRecord = fresh 0 noUnits []
 
 -- "opening runs the check"; "Opening gives a fresh record, or on refusal the empty record (n = 0)."
-unfoldable pub opening : ℕ → ℕ → List ℕ → ℕ → Opening
-opening n k table room =
-    record { refusal = refusal n k table room; state = cond (eqb (refusal n k table room) 0) (fresh n k table) emptyRecord }
+unfoldable pub opening : ℕ → Units → List ℕ → ℕ → Opening
+opening n stock table room =
+    record { refusal = refusal n (askedWith stock) table room; state = cond (eqb (refusal n (askedWith stock) table room) 0) (fresh n stock table) emptyRecord }
 
 -- what the code's answer says
 unfoldable pub openedOf : Opened → Opening

@@ -5,6 +5,7 @@ use Prim.Native.Nat.{ℕ, _*_}
 use lib.Dec.{eqb, ltb}
 use lib.ListN.{length, drop}
 use Rattle.lists.specs.Broken.{Test, _when_, firstBroken}
+use Rattle.units.specs.Units.{unitsOf, numberOf}
 use Rattle.plain.specs.Answer.{Answer}
 use Rattle.plain.specs.Run.{Call, run, after}
 use Rattle.plain.specs.State.{State}
@@ -26,7 +27,7 @@ wellFormed (what ∷ s ∷ w ∷ h ∷ rest) = formed what w h && wellFormed res
 
 unfoldable pub callOf : ℕ → ℕ → ℕ → ℕ → Call
 callOf what s w h =
-    cond (eqb what 0) (Call.Request s w h) (cond (eqb what 1) (Call.Up s w) (cond (eqb what 2) (Call.Down s w) (Call.Release s)))
+    cond (eqb what 0) (Call.Request s w (unitsOf h)) (cond (eqb what 1) (Call.Up s w) (cond (eqb what 2) (Call.Down s w) (Call.Release s)))
 
 unfoldable pub callsOf : List ℕ → List Call
 callsOf [] = []
@@ -38,7 +39,7 @@ callsOf (what ∷ s ∷ w ∷ h ∷ rest) = callOf what s w h ∷ callsOf rest
 -- an answer is three numbers: refusal, units entered, units left
 unfoldable pub wordsOf : List Answer → List ℕ
 wordsOf [] = []
-wordsOf (a ∷ answers) = a .refusal ∷ a .entered ∷ a .left ∷ wordsOf answers
+wordsOf (a ∷ answers) = a .refusal ∷ numberOf (a .entered) ∷ numberOf (a .left) ∷ wordsOf answers
 
 -- 15 where a call is "not of the form", 16 where the answers find no room ("15 before 16"); then no call is made
 abbrev pub listTests : List ℕ → ℕ → List Test

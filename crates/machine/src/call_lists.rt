@@ -7,6 +7,7 @@ ghost use lib.ListN.{length, getD, set, drop};
 ghost use Rattle.plain.specs.Run.{call, run as runOf, after};
 ghost use Rattle.records.specs.View.{view};
 ghost use Rattle.calls.specs.Answers.{answerOf};
+ghost use Rattle.units.specs.Units.{numberOf};
 ghost use Rattle.machine.specs.Performing.{formed, wellFormed, callOf, callsOf, wordsOf};
 use crate::ANSWER_NUMBERS;
 use crate::CALL_NUMBERS;
@@ -16,6 +17,7 @@ use crate::DO_REQUEST;
 use crate::DO_UP;
 use calls::Answer;
 use records::Record;
+use units::Units;
 
 pub fn is_formed(what: u16, with: u16, units: u16) -> bool
     ensures { λ r. ⌜ r ≡ formed what with units ⌝ }
@@ -72,10 +74,12 @@ fn answer_at(r: Record, calls: &[u16], i: usize) -> Answer
 }
 
 // The numbers of an answer, from place `at` on.
-fn write_answer(answers: &mut [u16], at: usize, refusal: u8, entered: u8, left: u8)
+fn write_answer(answers: &mut [u16], at: usize, refusal: u8, entered: Units, left: Units)
     requires { ⌜ at + 3 ≤ length (now answers) ⌝ }
-    ensures { λ _. ⌜ now (answers .exit) ≡ set (set (set (now (answers .entry)) at refusal) (at + 1) entered) (at + 2) left ⌝ }
+    ensures { λ _. ⌜ now (answers .exit) ≡ set (set (set (now (answers .entry)) at refusal) (at + 1) (numberOf entered)) (at + 2) (numberOf left) ⌝ }
 {
+    let entered = units::number_of(entered);
+    let left = units::number_of(left);
     answers[at] = refusal as u16;
     answers[at + 1] = entered as u16;
     answers[at + 2] = left as u16;
@@ -92,7 +96,9 @@ pub(crate) fn run(r: Record, calls: &[u16], answers: &mut [u16]) -> Record
     let mut at: usize = 0;
     while i < calls.len() {
         let a = answer_at(record, calls, i);
-        write_answer(answers, at, a.refusal, a.entered, a.left);
+        let entered = a.entered;
+        let left = a.left;
+        write_answer(answers, at, a.refusal, entered, left);
         let next = a.record;
         record = next;
         i += CALL_NUMBERS;

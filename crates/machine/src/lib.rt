@@ -5,6 +5,7 @@ ghost use lib.ListN.{length};
 ghost use Rattle.quorum.specs.Answer.{said, answer};
 ghost use Rattle.quorum.specs.Scratch.{cleaned};
 ghost use Rattle.records.specs.View.{view};
+ghost use Rattle.units.specs.Units.{askedWith, stockOf};
 ghost use Rattle.machine.specs.Opening.{opening, openedOf};
 ghost use Rattle.machine.specs.Performing.{performance, performedOf, answersIn};
 use quorum::Checked;
@@ -50,15 +51,15 @@ pub struct Opened {
 // The whole answer of the check, and a fresh record of the table, or on a refusal the empty record. The scratch is left as the check leaves
 // it.
 pub fn inspect(n: usize, k: usize, quorums: &[u16], scratch: &mut [u8]) -> Inspected
-    ensures checked { λ r. ⌜ said (r .checked) ≡ answer n k (now (quorums .entry)) (length (now (scratch .entry))) ⌝ }
-    ensures state { λ r. ⌜ view (r .«record») ≡ opening n k (now (quorums .entry)) (length (now (scratch .entry))) .state ⌝ }
+    ensures checked { λ r. ⌜ said (r .checked) ≡ answer n (askedWith (stockOf k)) (now (quorums .entry)) (length (now (scratch .entry))) ⌝ }
+    ensures state { λ r. ⌜ view (r .«record») ≡ opening n (stockOf k) (now (quorums .entry)) (length (now (scratch .entry))) .state ⌝ }
     ensures cleaned { λ _. ⌜ now (scratch .exit) ≡ cleaned (now (scratch .entry)) ⌝ }
 {
     let checked = quorum::check(n, k, quorums, scratch);
     if checked.refusal != refusals::NO_REFUSAL {
         return Inspected {
             checked,
-            record: opening::blank(0, 0, 0, [0u16; quorum::MOST_QUORUMS]),
+            record: opening::blank(0, units::no_units(), 0, [0u16; quorum::MOST_QUORUMS]),
         };
     }
     let record = opening::fresh(n, k, quorums);
@@ -67,7 +68,7 @@ pub fn inspect(n: usize, k: usize, quorums: &[u16], scratch: &mut [u8]) -> Inspe
 
 // The refusal of the check, and the same record.
 pub fn open(n: usize, k: usize, quorums: &[u16], scratch: &mut [u8]) -> Opened
-    ensures opened { λ r. ⌜ openedOf r ≡ opening n k (now (quorums .entry)) (length (now (scratch .entry))) ⌝ }
+    ensures opened { λ r. ⌜ openedOf r ≡ opening n (stockOf k) (now (quorums .entry)) (length (now (scratch .entry))) ⌝ }
     ensures cleaned { λ _. ⌜ now (scratch .exit) ≡ cleaned (now (scratch .entry)) ⌝ }
 {
     let inspected = inspect(n, k, quorums, scratch);

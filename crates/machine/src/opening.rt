@@ -7,6 +7,7 @@ ghost use Rattle.lists.specs.Cut.{cut};
 ghost use Rattle.plain.specs.State.{fresh as freshOf};
 ghost use Rattle.quorum.specs.Limits.{mostStations, mostUnits, mostQuorums};
 ghost use Rattle.records.specs.View.{lanesOf, view};
+ghost use Rattle.units.specs.Units.{stockOf};
 use plain::Entry;
 use plain::Message;
 use plain::Phase;
@@ -20,6 +21,7 @@ use records::STATIONS;
 use records::Slot;
 use records::Station;
 use records::UP_PLACES;
+use units::Units;
 
 // The quorums in an array, with zeros after them.
 fn copied(quorums: &[u16]) -> [u16; quorum::MOST_QUORUMS]
@@ -55,16 +57,17 @@ fn empty_lanes() -> Lanes
 }
 
 // All is idle and empty.
-pub(crate) fn blank(n: u8, stock: u8, quorums: u8, table: [u16; quorum::MOST_QUORUMS]) -> Record
+pub(crate) fn blank(n: u8, stock: Units, quorums: u8, table: [u16; quorum::MOST_QUORUMS]) -> Record
     ensures { λ r. ⌜ view r ≡ freshOf n stock (cut 0 quorums table) ⌝ }
 {
     let station = Station { phase: Phase::Idle };
+    let none = units::no_units();
     let entry = Entry {
         station: 0,
-        units: 0,
+        units: none,
     };
     let arbiter = Arbiter {
-        granted: [0u8; STATIONS],
+        granted: [none; STATIONS],
         len: 0,
         line: [entry; LINE_PLACES],
     };
@@ -84,8 +87,8 @@ pub(crate) fn blank(n: u8, stock: u8, quorums: u8, table: [u16; quorum::MOST_QUO
 // A fresh record of the table.
 pub(crate) fn fresh(n: usize, k: usize, quorums: &[u16]) -> Record
     requires { ⌜ (n ≤ mostStations) × (k ≤ mostUnits) × (length (now quorums) ≤ mostQuorums) ⌝ }
-    ensures { λ r. ⌜ view r ≡ freshOf n k (now (quorums .entry)) ⌝ }
+    ensures { λ r. ⌜ view r ≡ freshOf n (stockOf k) (now (quorums .entry)) ⌝ }
 {
     let table = copied(quorums);
-    blank(n as u8, k as u8, quorums.len() as u8, table)
+    blank(n as u8, units::stock_of(k), quorums.len() as u8, table)
 }

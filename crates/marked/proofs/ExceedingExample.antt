@@ -10,8 +10,9 @@ use Rattle.quorum.specs.Family.{commonWithin, families}
 use Rattle.quorum.specs.FirstFamily.{firstFamily}
 use Rattle.quorum.specs.Limits.{brokenLimit}
 use Rattle.quorum.specs.Width.{emptied, leastSize, width}
+use Rattle.units.specs.Units.{requestIn, grantIn, fits, only, askedWith, askedBy, unitsOf, stockOf}
 use Rattle.plain.specs.Answer.{answered}
-use Rattle.plain.specs.Arbiter.{arrived, fits, serve, unitsIn}
+use Rattle.plain.specs.Arbiter.{arrived, serve, unitsIn}
 use Rattle.plain.specs.Delivery.{deliveryRefusal}
 use Rattle.plain.specs.Down.{onward, taken, receivedAs, received, entering, down}
 use Rattle.plain.specs.Exceeding.{visits, collects, exceeds, exceeding}
@@ -23,10 +24,10 @@ use Rattle.plain.specs.State.{fresh}
 use Rattle.plain.specs.Up.{granting, deliveredOf, delivered, up}
 use Rattle.plain.proofs.HandMade.{said, done, enters}
 
-pub six-units : exceeding 2 5 (1 ∷ (2 ∷ [])) ≡ Call.Request 0 0 1 ∷ (Call.Up 0 0 ∷ (Call.Down 0 0 ∷ (Call.Request 1 1 5 ∷ (Call.Up 1 1 ∷ (Call.Down 1 1 ∷ [])))))
-unfolding commonWithin families firstFamily emptied leastSize width member visits collects exceeds exceeding
+pub six-units : exceeding 2 (stockOf 5) (1 ∷ (2 ∷ [])) ≡ Call.Request 0 0 (unitsOf 1) ∷ (Call.Up 0 0 ∷ (Call.Down 0 0 ∷ (Call.Request 1 1 (unitsOf 5) ∷ (Call.Up 1 1 ∷ (Call.Down 1 1 ∷ [])))))
+unfolding commonWithin families firstFamily emptied leastSize width member visits collects exceeds exceeding only askedWith askedBy unitsOf stockOf
 six-units = refl
 
-pub six-entered : map said (run (fresh 2 5 (1 ∷ (2 ∷ []))) (exceeding 2 5 (1 ∷ (2 ∷ [])))) ≡ done ∷ (done ∷ (enters 1 ∷ (done ∷ (done ∷ (enters 5 ∷ [])))))
-unfolding commonWithin families firstFamily emptied leastSize width member visits collects exceeds exceeding brokenLimit lowestAmong lowestFrom at total fresh answered arrived fits serve unitsIn onward taken receivedAs received entering down goesUp goesDown keeps phaseIn entryIn arbiterIn inRange requestRefusal requested request call run granting deliveryRefusal deliveredOf delivered up
+pub six-entered : map said (run (fresh 2 (stockOf 5) (1 ∷ (2 ∷ []))) (exceeding 2 (stockOf 5) (1 ∷ (2 ∷ [])))) ≡ done ∷ (done ∷ (enters 1 ∷ (done ∷ (done ∷ (enters 5 ∷ [])))))
+unfolding commonWithin families firstFamily emptied leastSize width member visits collects exceeds exceeding brokenLimit lowestAmong lowestFrom at total fresh answered arrived fits serve unitsIn onward taken receivedAs received entering down goesUp goesDown keeps phaseIn entryIn arbiterIn inRange requestRefusal requested request call run granting deliveryRefusal deliveredOf delivered up only askedWith askedBy unitsOf stockOf requestIn grantIn
 six-entered = refl

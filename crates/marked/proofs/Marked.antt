@@ -17,8 +17,9 @@ use Rattle.quorum.specs.Refusal.{refusal}
 use Rattle.quorum.specs.Scratch.{scratchBytes}
 use Rattle.quorum.specs.Width.{emptied, leastSize, width, lacksCommon}
 use Rattle.tables.specs.Cube.{coordinate, agree, cubeQuorum, cubeTable}
+use Rattle.units.specs.Units.{requestIn, grantIn, fits, askedWith, unitsOf, stockOf}
 use Rattle.plain.specs.Answer.{Answer, answered}
-use Rattle.plain.specs.Arbiter.{arrived, fits, serve, unitsIn}
+use Rattle.plain.specs.Arbiter.{arrived, serve, unitsIn}
 use Rattle.plain.specs.Delivery.{deliveryRefusal}
 use Rattle.plain.specs.Down.{onward, taken, receivedAs, received, entering, down}
 use Rattle.plain.specs.InRange.{goesUp, goesDown, phaseIn, entryIn, arbiterIn, inRange}
@@ -45,7 +46,7 @@ check n k t = says (answer n k t scratchBytes)
 
 -- the answers to a list of calls from the fresh state
 abbrev from-fresh : ℕ → ℕ → List ℕ → List Call → Says
-from-fresh n k t list = Says.calls (map said (run (fresh n k t) list))
+from-fresh n k t list = Says.calls (map said (run (fresh n (stockOf k) t) list))
 
 abbrev three : List ℕ
 three = 3 ∷ 5 ∷ 6 ∷ []
@@ -54,10 +55,10 @@ abbrev four : List ℕ
 four = 7 ∷ 11 ∷ 13 ∷ 14 ∷ []
 
 abbrev first-enters : List Call
-first-enters = Call.Request 0 0 1 ∷ Call.Up 0 0 ∷ Call.Down 0 0 ∷ Call.Up 0 1 ∷ Call.Down 0 1 ∷ []
+first-enters = Call.Request 0 0 (unitsOf 1) ∷ Call.Up 0 0 ∷ Call.Down 0 0 ∷ Call.Up 0 1 ∷ Call.Down 0 1 ∷ []
 
 abbrev second-waits : List Call
-second-waits = Call.Request 1 2 1 ∷ Call.Up 1 1 ∷ Call.Down 1 1 ∷ []
+second-waits = Call.Request 1 2 (unitsOf 1) ∷ Call.Up 1 1 ∷ Call.Down 1 1 ∷ []
 
 -- Left the definitions, right what document 01 says. (It says nothing of even; an answer is shown whole.)
 pub marked :
@@ -112,5 +113,5 @@ pub marked :
     -- P12
     ∷ Says.calls (done ∷ done ∷ done ∷ done ∷ enters 1 ∷ done ∷ done ∷ refuses 13 ∷ [])
     ∷ [])
-unfolding answer answerTo refusal nested even belongs width emptied leastSize firstFamily lacksCommon commonWithin families brokenLimit member contains cubeTable each cubeQuorum setOf agree coordinate lowestAmong lowestFrom at total fresh answered arrived fits serve unitsIn onward taken receivedAs received entering down goesUp goesDown keeps phaseIn entryIn arbiterIn inRange releasing releaseRefusal givenBack released release requestRefusal requested request call run granting deliveryRefusal deliveredOf delivered up
+unfolding answer answerTo refusal nested even belongs width emptied leastSize firstFamily lacksCommon commonWithin families brokenLimit member contains cubeTable each cubeQuorum setOf agree coordinate lowestAmong lowestFrom at total fresh answered arrived fits serve unitsIn onward taken receivedAs received entering down goesUp goesDown keeps phaseIn entryIn arbiterIn inRange releasing releaseRefusal givenBack released release requestRefusal requested request call run granting deliveryRefusal deliveredOf delivered up requestIn grantIn askedWith unitsOf stockOf
 marked = refl

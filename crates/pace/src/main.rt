@@ -26,10 +26,10 @@ fn counted(t: Tally, a: calls::Answer) -> Tally {
     let record = a.record;
     next.record = record;
     if t.entered < 1000000 {
-        next.entered = t.entered + a.entered as usize;
+        next.entered = t.entered + units::number_of(a.entered) as usize;
     }
     if t.left < 1000000 {
-        next.left = t.left + a.left as usize;
+        next.left = t.left + units::number_of(a.left) as usize;
     }
     if a.refusal != refusals::NO_REFUSAL {
         if t.refused < 1000000 {

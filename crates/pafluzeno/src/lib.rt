@@ -11,6 +11,7 @@ ghost use Rattle.tables.specs.Cube.{cubeTable, cubeRefusal};
 ghost use Rattle.tables.specs.Made.{said as madeSays, answer as making, written};
 ghost use Rattle.tables.specs.Singleton.{singletonTable, singletonRefusal};
 ghost use Rattle.tables.specs.Uniform.{uniformTable, uniformRefusal};
+ghost use Rattle.units.specs.Units.{stockOf};
 ghost use Rattle.pafluzeno.specs.Arriving.{upwardOf};
 
 mod journal;
@@ -83,7 +84,7 @@ pub extern "C" fn pafluzeno_cube(a: usize, k: usize, out: &mut [u16]) -> Made
 
 // The message in the machine's own form.
 fn settled(a: Arbiter, m: Arrival) -> Settled
-    ensures { λ r. ⌜ (lentOf (r .reply) (r .arbiter) ≡ lending (m .stock) (m .station) (upwardOf (m .request) (m .units)) (arbiterOf mostStations a)) × (0 < r .reply .refusal → r .arbiter ≡ a) ⌝ }
+    ensures { λ r. ⌜ (lentOf (r .reply) (r .arbiter) ≡ lending (stockOf (m .stock)) (m .station) (upwardOf (m .request) (m .units)) (arbiterOf mostStations a)) × (0 < r .reply .refusal → r .arbiter ≡ a) ⌝ }
 {
     let stock = m.stock;
     let station = m.station;
@@ -111,7 +112,7 @@ fn settled(a: Arbiter, m: Arrival) -> Settled
 // answers the set of stations granted; a refusal answers the empty set and changes nothing.
 #[no_mangle]
 pub extern "C" fn pafluzeno_tell(a: &mut Arbiter, m: Arrival) -> Reply
-    ensures { λ r. ⌜ (lentOf r (now (a .exit)) ≡ lending (m .stock) (m .station) (upwardOf (m .request) (m .units)) (arbiterOf mostStations (now (a .entry)))) × (0 < r .refusal → now (a .exit) ≡ now (a .entry)) ⌝ }
+    ensures { λ r. ⌜ (lentOf r (now (a .exit)) ≡ lending (stockOf (m .stock)) (m .station) (upwardOf (m .request) (m .units)) (arbiterOf mostStations (now (a .entry)))) × (0 < r .refusal → now (a .exit) ≡ now (a .entry)) ⌝ }
 {
     let settled = settled(*a, m);
     *a = settled.arbiter;

@@ -7,10 +7,11 @@ use Prim.Native.Nat.{ℕ}
 use lib.Dec.{ltb}
 use Rattle.lists.specs.Broken.{Test, firstBroken}
 use Rattle.lists.proofs.Broken.{Kept, numberAt, BrokenAt, done-or-as, tests-done, tests-refuse}
+use Rattle.units.specs.declared.Units.{Units}
 use Rattle.plain.specs.Answer.{Answer, refused, done, answered}
 use Rattle.plain.specs.State.{State}
 
-module _ (st : State) (e l : ℕ) (next : State) where
+module _ (st : State) (e l : Units) (next : State) where
   -- an answer says that the call was done, or that it was refused and all is as it was
   pub answered-as : (P : Answer → Type 0) (r : ℕ) → (r ≡ 0 → P (done e l next)) → P (refused st r) → P (answered st r e l next)
   unfolding answered

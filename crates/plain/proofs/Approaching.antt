@@ -17,6 +17,8 @@ use Rattle.stations.proofs.Members.{member-below, member-station, some-member}
 use Rattle.quorum.specs.Family.{quorum}
 use Rattle.quorum.specs.Limits.{brokenLimit}
 use Rattle.quorum.proofs.Promises.{Limits, limits-kept}
+use Rattle.units.specs.Units.{askedWith}
+use Rattle.units.specs.declared.Units.{Units}
 use Rattle.plain.specs.Down.{Taken, onward, taken, madeOf}
 use Rattle.plain.specs.declared.Message.{Message}
 use Rattle.plain.specs.declared.Message.the-variants.{Request, Release, Grant}
@@ -37,12 +39,12 @@ pub record Lowest-member (n q i m : ℕ) : Type 0 where
   pub before : (j : ℕ) → i ≤ j → j < m → member q j ≡ false
 
 -- every station has a place in a set
-pub station-place : (n k : ℕ) (table : List ℕ) → brokenLimit n k table ≡ 0 → n < places
-station-place n k table kept = omega (arith, limits-kept n k table kept .stations .1)
+pub station-place : (n : ℕ) (stock : Units) (table : List ℕ) → brokenLimit n (askedWith stock) table ≡ 0 → n < places
+station-place n stock table kept = omega (arith, limits-kept n (askedWith stock) table kept .stations .1)
 
-module _ (n k : ℕ) (table : List ℕ) (kept : brokenLimit n k table ≡ 0) (p : ℕ) (exists : p < length table) where
-  limits : Limits n k table
-  limits = limits-kept n k table kept
+module _ (n : ℕ) (stock : Units) (table : List ℕ) (kept : brokenLimit n (askedWith stock) table ≡ 0) (p : ℕ) (exists : p < length table) where
+  limits : Limits n (askedWith stock) table
+  limits = limits-kept n (askedWith stock) table kept
 
   small : quorum table p < 2 ^ n
   small = limits .members p exists .1
@@ -64,7 +66,7 @@ module _ (n k : ℕ) (table : List ℕ) (kept : brokenLimit n k table ≡ 0) (p 
   no-member i h j from =
       let l = lowest-from (quorum table p) i in
       by-cases (decLt j places) (λ (b : j < places). l .before j from (omega arith))
-      (λ (b : ¬ (j < places)). member-below n (quorum table p) j small (omega (arith, station-place n k table kept)))
+      (λ (b : ¬ (j < places)). member-below n (quorum table p) j small (omega (arith, station-place n stock table kept)))
 
   -- no quorum is empty, so there is a lowest member of all
   pub first-member : Lowest-member n (quorum table p) 0 (lowestFrom (quorum table p) 0)
@@ -76,7 +78,7 @@ module _ (n k : ℕ) (table : List ℕ) (kept : brokenLimit n k table ≡ 0) (p 
       absurd (clash m (no-member 0 none i (omega arith)))))
 
   -- a station that collects from j and takes its GRANT asks the lowest member above j, or there is none and it holds
-  pub onward-as : (P : Taken → Type 0) (h j : ℕ)
+  pub onward-as : (P : Taken → Type 0) (h : Units) (j : ℕ)
       → (Lowest-member n (quorum table p) (suc j) (lowestFrom (quorum table p) (suc j)) → P (Taken.asks p h (lowestFrom (quorum table p) (suc j))))
       → ((lowestFrom (quorum table p) (suc j) < places → ⊥) → ((i : ℕ) → suc j ≤ i → member (quorum table p) i ≡ false) → P (Taken.holds p h))
       → P (onward table p h j)

@@ -3,13 +3,13 @@
 use mathlib.Core.Bool.{true}
 use mathlib.Core.List.{List, [], _∷_, append-nil}
 use mathlib.Core.Path.{_≡_, refl, sym, _∙_}
-use Prim.Native.Nat.{ℕ, _≤_}
-use native.Mathlib.Omega.{arith}
+use Prim.Native.Nat.{ℕ}
 use borrow.Author.Tests.{eq-eqb, ne-eqb}
-use Rattle.lists.specs.Counting.{total}
 use Rattle.lists.proofs.Changed.{at-same, at-other}
 use Rattle.lists.proofs.Tests.{clash}
-use Rattle.lists.proofs.Totals.{total-at-le}
+use Rattle.units.specs.Units.{noUnits}
+use Rattle.units.specs.declared.Units.{Units}
+use Rattle.units.proofs.Amounts.{Within, within-cleared}
 use Rattle.plain.specs.Arbiter.{arrived, unitsIn}
 use Rattle.plain.specs.InRange.{goesUp}
 use Rattle.plain.specs.State.{Arbiter}
@@ -18,21 +18,21 @@ use Rattle.plain.specs.declared.Message.the-variants.{Request, Release, 
 use Rattle.plain.proofs.Pairs.{Part, Pair, request-arrives, release-arrives}
 use Rattle.plain.proofs.Serving.{units-append}
 
-own-units : (s h : ℕ) → unitsIn s (record { station = s; units = h } ∷ []) ≡ h ∷ []
+own-units : (s : ℕ) (h : Units) → unitsIn s (record { station = s; units = h } ∷ []) ≡ h ∷ []
 unfolding unitsIn
 own-units s h = rw (eq-eqb s s refl)
 
-others-units : (s h t : ℕ) → (t ≡ s → ⊥) → unitsIn t (record { station = s; units = h } ∷ []) ≡ []
+others-units : (s : ℕ) (h : Units) (t : ℕ) → (t ≡ s → ⊥) → unitsIn t (record { station = s; units = h } ∷ []) ≡ []
 unfolding unitsIn
 others-units s h t d = rw (ne-eqb s t (λ e. d (sym e)))
 
-module _ (k s : ℕ) (a : Arbiter) where
+module _ (stock : Units) (s : ℕ) (a : Arbiter) where
   -- for the sender
-  pub arrived-own : {p : Part} {rest down : List Message} (m : Message) → goesUp k m ≡ true → Pair p (m ∷ rest) (unitsIn s (a .line)) (a .granted s) down
+  pub arrived-own : {p : Part} {rest down : List Message} (m : Message) → goesUp stock m ≡ true → Pair p (m ∷ rest) (unitsIn s (a .line)) (a .granted s) down
       → Pair p rest (unitsIn s (arrived m s a .line)) (arrived m s a .granted s) down
   unfolding arrived goesUp
   arrived-own (Request h) u x = rw (units-append s (a .line) (record { station = s; units = h } ∷ []), own-units s h) (request-arrives x)
-  arrived-own Release u x = rw (at-same (a .granted) s 0) (release-arrives x)
+  arrived-own Release u x = rw (at-same (a .granted) s noUnits) (release-arrives x)
   arrived-own Grant u x = absurd (clash u refl)
 
   -- for all others nothing changes
@@ -45,12 +45,12 @@ module _ (k s : ℕ) (a : Arbiter) where
   pub arrived-grants : (m : Message) (t : ℕ) → (t ≡ s → ⊥) → arrived m s a .granted t ≡ a .granted t
   unfolding arrived
   arrived-grants (Request h) t d = refl
-  arrived-grants Release t d = at-other (a .granted) s 0 t d
+  arrived-grants Release t d = at-other (a .granted) s noUnits t d
   arrived-grants Grant t d = refl
 
   -- no more units are granted than before
-  pub arrived-stock : (m : Message) (n : ℕ) → total (a .granted) n ≤ k → total (arrived m s a .granted) n ≤ k
+  pub arrived-stock : (m : Message) (n : ℕ) → Within n stock (a .granted) → Within n stock (arrived m s a .granted)
   unfolding arrived
-  arrived-stock (Request h) n le = le
-  arrived-stock Release n le = omega (arith, le, total-at-le (a .granted) s 0 n)
-  arrived-stock Grant n le = le
+  arrived-stock (Request h) n w = w
+  arrived-stock Release n w = within-cleared n stock (a .granted) s w
+  arrived-stock Grant n w = w

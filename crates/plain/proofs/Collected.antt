@@ -10,13 +10,16 @@ use native.Mathlib.Omega.{arith}
 use lib.ListN.{length}
 use borrow.Author.Tests.{le-ltb}
 use Rattle.lists.specs.At.{at}
+use Rattle.lists.specs.Counting.{total}
 use Rattle.lists.proofs.Changed.{at-same, at-other}
 use Rattle.lists.proofs.Tests.{known}
 use Rattle.lists.proofs.Totals.{total-same}
 use Rattle.stations.specs.Member.{member}
 use Rattle.stations.specs.Sets.{places, lowestFrom}
 use Rattle.quorum.specs.Family.{quorum}
-use Rattle.quorum.specs.Limits.{upTo}
+use Rattle.units.specs.Units.{requestIn, fits, Amount, amount}
+use Rattle.units.specs.declared.Units.{Units}
+use Rattle.units.proofs.Amounts.{amount-none, Within}
 use Rattle.plain.specs.Down.{receivedAs}
 use Rattle.plain.specs.Exceeding.{visits, collects}
 use Rattle.plain.specs.Release.{held}
@@ -42,44 +45,49 @@ visits-other : (st : State) (q s i more : ℕ) → member q i ≡ false → afte
 unfolding visits
 visits-other st q s i more e = rw e refl
 
-collects-first : (st : State) (n s p h : ℕ) (table : List ℕ)
+collects-first : (st : State) (n s p : ℕ) (h : Units) (table : List ℕ)
     → after st (collects n table s p h) ≡ after (call st (Call.Request s p h) .state) (visits (quorum table p) s 0 n)
 unfolding collects after
 collects-first st n s p h table = refl
 
-module _ (s p h : ℕ) (load : ℕ → ℕ) (was : ℕ → Phase) where
+-- the units h fit beside any that are within the stock and, of the amount, within the load
+abbrev pub FitsBeside : Amount → State → Units → ℕ → Type 0
+FitsBeside a st h load = (granted : ℕ → Units) → Within (st .n) (st .stock) granted → total (λ s. amount a (granted s)) (st .n) ≤ load → fits (st .n) (st .stock) granted h ≡ true
+
+module _ (a : Amount) (s p : ℕ) (h : Units) (load : ℕ → ℕ) (was : ℕ → Phase) where
   -- from member to member
-  all-visited : (more i : ℕ) (st : State) → Visiting st was s p h i load → i + more ≡ st .n → s < st .n → p < length (st .table)
-      → ((j : ℕ) → i ≤ j → j < st .n → member (quorum (st .table) p) j ≡ true → h + load j ≤ st .stock)
-      → Visiting (after st (visits (quorum (st .table) p) s i more)) was s p h (st .n) load
+  all-visited : (more i : ℕ) (st : State) → Visiting a st was s p h i load → i + more ≡ st .n → s < st .n → p < length (st .table)
+      → ((j : ℕ) → i ≤ j → j < st .n → member (quorum (st .table) p) j ≡ true → FitsBeside a st h (load j))
+      → Visiting a (after st (visits (quorum (st .table) p) s i more)) was s p h (st .n) load
   unfolding visits after visited receivedAs grantedTo
   all-visited zero i st v e exists number room = let end : i ≡ st .n = omega arith in rw end at v
   all-visited (suc more) i st v e exists number room =
       ⊎-elim
       (λ (m : member (quorum (st .table) p) i ≡ true).
-      let v′ = visit st was s p h i load v exists (omega arith) number m (room i (omega arith) (omega arith) m) in
-      rw (visits-member st (quorum (st .table) p) s i more m, visit-done st was s p h i load v exists (omega arith) number m (room i (omega arith) (omega arith) m))
+      let fit = room i (omega arith) (omega arith) m (st .arbiter i .granted) (v .within i) (v .unvisited i (omega arith)) in
+      let v′ = visit a st was s p h i load v exists (omega arith) number m fit in
+      rw (visits-member st (quorum (st .table) p) s i more m, visit-done a st was s p h i load v exists (omega arith) number m fit)
       (all-visited more (suc i) (visited st s p h i) v′ (omega arith) exists number (λ j l. room j (omega arith))))
       (λ (o : member (quorum (st .table) p) i ≡ false).
       rw (visits-other st (quorum (st .table) p) s i more o)
-      (all-visited more (suc i) st (pass-by st was s p h i load v (omega (arith, station-place (st .n) (st .stock) (st .table) (ranged st (v .range) .limits))) o) (omega arith) exists number (λ j l. room j (omega arith))))
+      (all-visited more (suc i) st (pass-by a st was s p h i load v (omega (arith, station-place (st .n) (st .stock) (st .table) (ranged st (v .range) .limits))) o) (omega arith) exists number (λ j l. room j (omega arith))))
       (known (member (quorum (st .table) p) i))
 
 -- what comes of it
-pub record Collected (st next : State) (s p h : ℕ) (load : ℕ → ℕ) : Type 0 where
-  pub calm : Calm next (suc s) (λ j. load j + cond (member (quorum (st .table) p) j) h 0)
-  pub holds : heldBy (next .phase) (next .n) ≡ heldBy (st .phase) (st .n) + h
+pub record Collected (a : Amount) (st next : State) (s p : ℕ) (h : Units) (load : ℕ → ℕ) : Type 0 where
+  pub calm : Calm a next (suc s) (λ j. load j + cond (member (quorum (st .table) p) j) (amount a h) 0)
+  pub holds : heldBy a (next .phase) (next .n) ≡ heldBy a (st .phase) (st .n) + amount a h
 
-module _ (st : State) (s p h : ℕ) (load : ℕ → ℕ) (calm : Calm st s load) (exists : s < st .n) (number : p < length (st .table)) (units : upTo (st .stock) h ≡ true)
-    (room : (j : ℕ) → j < st .n → member (quorum (st .table) p) j ≡ true → h + load j ≤ st .stock) where
+module _ (a : Amount) (st : State) (s p : ℕ) (h : Units) (load : ℕ → ℕ) (calm : Calm a st s load) (exists : s < st .n) (number : p < length (st .table)) (units : requestIn (st .stock) h ≡ true)
+    (room : (j : ℕ) → j < st .n → member (quorum (st .table) p) j ≡ true → FitsBeside a st h (load j)) where
   next : State
   next = after st (collects (st .n) (st .table) s p h)
 
-  end : Visiting next (st .phase) s p h (st .n) load
+  end : Visiting a next (st .phase) s p h (st .n) load
   unfolding next requested
   end =
-      rw (collects-first st (st .n) s p h (st .table), asked-done st s p h load calm exists number units)
-      (all-visited s p h load (st .phase) (st .n) 0 (requested st s p h) (request-visits st s p h load calm exists number units) (omega arith) exists number (λ j l. room j))
+      rw (collects-first st (st .n) s p h (st .table), asked-done a st s p h load calm exists number units)
+      (all-visited a s p h load (st .phase) (st .n) 0 (requested st s p h) (request-visits a st s p h load calm exists number units) (omega arith) exists number (λ j l. room j))
 
   same : Same-table st next
   unfolding next
@@ -95,20 +103,20 @@ module _ (st : State) (s p h : ℕ) (load : ℕ → ℕ) (calm : Calm st s load)
   unfolding toward
   holding = end .phase ∙ rw (le-ltb (lowestFrom (quorum (next .table) p) (st .n)) places (omega (arith, no-next)))
 
-  one : (t : ℕ) → held (next .phase t) ≡ held (at (st .phase) s (Holding p h) t)
+  one : (t : ℕ) → amount a (held (next .phase t)) ≡ amount a (held (at (st .phase) s (Holding p h) t))
   one t =
       by-cases (ℕ-discrete t s)
       (λ (e : t ≡ s). rw (e, holding, at-same (st .phase) s (Holding p h)))
       (λ (d : t ≡ s → ⊥). rw (end .others t d, at-other (st .phase) s (Holding p h) t d))
 
-  more-held : heldBy (next .phase) (st .n) ≡ heldBy (st .phase) (st .n) + h
+  more-held : heldBy a (next .phase) (st .n) ≡ heldBy a (st .phase) (st .n) + amount a h
   more-held =
-      let none : held (st .phase s) ≡ 0 = rw (calm .idle s (omega arith)) in
-      let sum = held-at (st .phase) s (st .n) (Holding p h) exists in
-      let now = total-same (λ t. held (next .phase t)) (λ t. held (at (st .phase) s (Holding p h) t)) (st .n) (λ t l. one t) in
+      let none : amount a (held (st .phase s)) ≡ 0 = rw (calm .idle s (omega arith)) (amount-none a) in
+      let sum = held-at a (st .phase) s (st .n) (Holding p h) exists in
+      let now = total-same (λ t. amount a (held (next .phase t))) (λ t. amount a (held (at (st .phase) s (Holding p h) t))) (st .n) (λ t l. one t) in
       omega arith
 
-  pub collected : Collected st (after st (collects (st .n) (st .table) s p h)) s p h load
+  pub collected : Collected a st (after st (collects (st .n) (st .table) s p h)) s p h load
   unfolding next
   collected =
       record {
@@ -118,6 +126,7 @@ module _ (st : State) (s p h : ℕ) (load : ℕ → ℕ) (calm : Calm st s load)
           ups = λ t j l. end .ups t j l (λ e x. no-next (omega (arith, station-place (next .n) (next .stock) (next .table) (ranged next (end .range) .limits))));
           downs = end .downs;
           lines = end .lines;
+          within = end .within;
           loads = λ j. rw (same .table) at (end .loads j);
         };
         holds = rw (same .n) more-held;

@@ -11,13 +11,13 @@ use lib.Dec.{ltb}
 use lib.ListN.{length}
 use borrow.Author.Tests.{eq-eqb, ne-eqb, ltb-true}
 use Rattle.lists.specs.At.{at, at2}
-use Rattle.lists.specs.Counting.{total}
 use Rattle.lists.proofs.Changed.{at-same, at-other, at-all}
 use Rattle.lists.proofs.Tests.{known, and-left}
-use Rattle.lists.proofs.Totals.{total-none}
 use Rattle.stations.specs.Member.{member}
 use Rattle.stations.specs.Sets.{lowestFrom}
 use Rattle.quorum.specs.Family.{quorum}
+use Rattle.units.specs.declared.Units.{Units}
+use Rattle.units.proofs.Amounts.{Within, within-none}
 use Rattle.plain.specs.Arbiter.{unitsIn, served, grantsTo}
 use Rattle.plain.specs.Down.{Taken, taken, takenAt, receivedAs}
 use Rattle.plain.specs.Inner.Passed.{Requests, Delivers, Releases}
@@ -51,12 +51,12 @@ approaches table (Holding q h) = true
 
 pub record Invariant (st : State) : Type 0 where
   pub pairs : (s j : ℕ) → Pair (wants (st .table) (st .phase s) j) (st .up s j) (unitsIn s (st .arbiter j .line)) (st .arbiter j .granted s) (st .down s j)
-  pub stock : (j : ℕ) → total (st .arbiter j .granted) (st .n) ≤ st .stock
+  pub stock : (j : ℕ) → Within (st .n) (st .stock) (st .arbiter j .granted)
   pub members : (s : ℕ) → approaches (st .table) (st .phase s) ≡ true
 
 -- ---- Request
 
-module _ (st : State) (s q h : ℕ) (r : Requests st s q h) (i : Invariant st) where
+module _ (st : State) (s q : ℕ) (h : Units) (r : Requests st s q h) (i : Invariant st) where
   low : Lowest-member (st .n) (quorum (st .table) q) 0 (lowest st q)
   low = first-member (st .n) (st .stock) (st .table) (ranged st (r .range) .limits) q (r .quorum)
 
@@ -126,7 +126,7 @@ module _ (st : State) (s j : ℕ) (m : Message) (rest : List Message) (d : Deliv
   up-keeps =
       record {
         pairs = λ t x. by-cases (ℕ-discrete x j) (λ (e : x ≡ j). rw (e, at-same (st .arbiter) j (served (st .n) (st .stock) a .arbiter), eq-eqb j j refl) (service t)) (λ (o : x ≡ j → ⊥). other t x o);
-        stock = λ x. at-all (λ b. total (b .granted) (st .n) ≤ st .stock) (st .arbiter) j (served (st .n) (st .stock) a .arbiter)
+        stock = λ x. at-all (λ b. Within (st .n) (st .stock) (b .granted)) (st .arbiter) j (served (st .n) (st .stock) a .arbiter)
             (serve-stock (st .n) (st .stock) (a .granted) (a .line) (arrived-stock (st .stock) s (st .arbiter j) m (st .n) (i .stock j)))
             x (i .stock x);
         members = i .members;
@@ -146,7 +146,7 @@ module _ (st : State) (s j : ℕ) (m : Message) (rest : List Message) (d : Deliv
 
 -- the station collected from j and has now what it waited for
 module _ (st : State) (s j : ℕ) (message : Message) (rest : List Message) (d : Delivers st s j (st .down s j) message rest) (i : Invariant st)
-    (q h : ℕ) (collecting : st .phase s ≡ Collecting q h j)
+    (q : ℕ) (h : Units) (collecting : st .phase s ≡ Collecting q h j)
     (has : Pair (Part.has h) (st .up s j) (unitsIn s (st .arbiter j .line)) (st .arbiter j .granted s) rest) where
   belongs : member (quorum (st .table) q) j ≡ true
   unfolding approaches
@@ -215,7 +215,7 @@ down-keeps st s j m rest d i =
 
 -- ---- Release
 
-module _ (st : State) (s q h : ℕ) (r : Releases st s q h) (i : Invariant st) where
+module _ (st : State) (s q : ℕ) (h : Units) (r : Releases st s q h) (i : Invariant st) where
   pub release-keeps : Invariant (givenBack st s q)
   unfolding givenBack approaches wants
   release-keeps =
@@ -237,12 +237,12 @@ module _ (st : State) (s q h : ℕ) (r : Releases st s q h) (i : Invariant st) w
 
 -- ---- at the start, at each call, and after any list of calls
 
-pub fresh-keeps : (n k : ℕ) (table : List ℕ) → Invariant (fresh n k table)
+pub fresh-keeps : (n : ℕ) (stock : Units) (table : List ℕ) → Invariant (fresh n stock table)
 unfolding fresh wants unitsIn approaches
-fresh-keeps n k table =
+fresh-keeps n stock table =
     record {
       pairs = λ s j. Pair.clear;
-      stock = λ j. omega (arith, total-none (λ s. 0) n (λ s l. refl));
+      stock = λ j. within-none n stock;
       members = λ s. refl;
     }
 

@@ -11,6 +11,7 @@ use borrow.Author.Tests.{le-leb, leb-true, ltb-false}
 use Rattle.lists.specs.Search.{all}
 use Rattle.lists.proofs.Searches.{all-append, all-right}
 use Rattle.lists.proofs.Tests.{and-left, and-right, and-both}
+use Rattle.units.specs.declared.Units.{Units}
 use Rattle.plain.specs.InRange.{goesDown}
 use Rattle.plain.specs.Lanes.{keeps, passes}
 use Rattle.plain.specs.declared.Message.the-variants.{Grant}
@@ -44,7 +45,7 @@ module _ {A : Type 0} (limit : ℕ) (f : A → Bool) where
   pub keeps-first : (x : A) (l : List A) → keeps limit f (x ∷ l) ≡ true → f x ≡ true
   keeps-first x l e = and-left (f x) (all f l) (keeps-all (x ∷ l) e)
 
-pub grants-down : (us : List ℕ) → all goesDown (map (λ h. Grant) us) ≡ true
+pub grants-down : (us : List Units) → all goesDown (map (λ h. Grant) us) ≡ true
 unfolding goesDown
 grants-down [] = refl
 grants-down (u ∷ us) = grants-down us

@@ -9,6 +9,8 @@ use lib.ListN.{length, take}
 use borrow.Author.Tests.{leb-false, lt-leb, not-false}
 use Rattle.lists.proofs.Broken.{Kept, kept-both, passes-kept, numberAt, BrokenAt}
 use Rattle.lists.proofs.Tests.{clash, or-none}
+use Rattle.units.specs.Units.{noUnits}
+use Rattle.units.specs.declared.Units.{Units}
 use Rattle.plain.specs.Answer.{Answer, refused, done, answered}
 use Rattle.plain.specs.Delivery.{deliveryTests, deliveryRefusal}
 use Rattle.plain.specs.Down.{enters, takenAt, downPassesOf, downTests, receivedAs, received, entering, down}
@@ -35,7 +37,7 @@ is-idle Idle e = refl
 is-idle (Collecting q h m) e = absurd (clash refl e)
 is-idle (Holding q h) e = absurd (clash refl e)
 
-module _ (st : State) (s q h : ℕ) where
+module _ (st : State) (s q : ℕ) (h : Units) where
   pub requests : requestRefusal st s q h ≡ 0 → Requests st s q h × (requestPasses st s q h ≡ false)
   unfolding requestRefusal
   requests e =
@@ -53,15 +55,15 @@ module _ (st : State) (s q h : ℕ) where
   -- the test at place i is broken, and none before it
   pub request-refused : (i : ℕ) → BrokenAt i (requestTests st s q h) → ltb 0 (numberAt i (requestTests st s q h)) ≡ true → request st s q h ≡ refused st (numberAt i (requestTests st s q h))
   unfolding request requestRefusal
-  request-refused i b n = answered-refused st 0 0 (requested st s q h) i (requestTests st s q h) b n
+  request-refused i b n = answered-refused st noUnits noUnits (requested st s q h) i (requestTests st s q h) b n
 
   module _ (r : Requests st s q h) where
     pub request-kept : Kept (take 5 (requestTests st s q h))
     request-kept = (range-kept (r .range), (lt-leb (st .n) s (r .station), (lt-leb (length (st .table)) q (r .quorum), (range-kept (r .units), (rw (r .idle), tt)))))
 
-    pub request-done : requestPasses st s q h ≡ false → request st s q h ≡ done 0 0 (requested st s q h)
+    pub request-done : requestPasses st s q h ≡ false → request st s q h ≡ done noUnits noUnits (requested st s q h)
     unfolding request requestRefusal
-    request-done room = answered-done st 0 0 (requested st s q h) (requestTests st s q h) (kept-both 5 (requestTests st s q h) request-kept (room, tt))
+    request-done room = answered-done st noUnits noUnits (requested st s q h) (requestTests st s q h) (kept-both 5 (requestTests st s q h) request-kept (room, tt))
 
 -- ---- Up and Down: the same tests, each with its own for the room
 
@@ -78,7 +80,7 @@ module _ (st : State) (s j : ℕ) (lane : List Message) (full : Message → Bool
       let (m, rest, taken, room) = first-message lane full c d in
       (m, rest, record { range = not-false (inRange st) a; station = leb-false (st .n) s x; arbiter = leb-false (st .n) j y; taken = taken }, room)
 
-  module _ (entered left : ℕ) (next : State) where
+  module _ (entered left : Units) (next : State) where
     -- what Up or Down answers
     abbrev pub delivery : Answer
     delivery = answered st (deliveryRefusal st s j lane full) entered left next
@@ -102,40 +104,40 @@ module _ (st : State) (s j : ℕ) (lane : List Message) (full : Message → Bool
 module _ (st : State) (s j : ℕ) where
   pub up-refused : (i : ℕ) → BrokenAt i (upTests st s j) → ltb 0 (numberAt i (upTests st s j)) ≡ true → up st s j ≡ refused st (numberAt i (upTests st s j))
   unfolding up
-  up-refused i b n = delivery-refused st s j (st .up s j) (upPasses st s j) 0 0 (delivered st s j (st .up s j)) i b n
+  up-refused i b n = delivery-refused st s j (st .up s j) (upPasses st s j) noUnits noUnits (delivered st s j (st .up s j)) i b n
 
   pub down-refused : (i : ℕ) → BrokenAt i (downTests st s j) → ltb 0 (numberAt i (downTests st s j)) ≡ true → down st s j ≡ refused st (numberAt i (downTests st s j))
   unfolding down
-  down-refused i b n = delivery-refused st s j (st .down s j) (downPassesOf st s j) (entering st s j (st .down s j)) 0 (received st s j (st .down s j)) i b n
+  down-refused i b n = delivery-refused st s j (st .down s j) (downPassesOf st s j) (entering st s j (st .down s j)) noUnits (received st s j (st .down s j)) i b n
 
   module _ {m : Message} {rest : List Message} where
     pub up-full : Delivers st s j (st .up s j) m rest → upPasses st s j m ≡ true → up st s j ≡ refused st noPlace
     unfolding up
-    up-full d f = delivery-full st s j (st .up s j) (upPasses st s j) 0 0 (delivered st s j (st .up s j)) d f
+    up-full d f = delivery-full st s j (st .up s j) (upPasses st s j) noUnits noUnits (delivered st s j (st .up s j)) d f
 
-    pub up-done : Delivers st s j (st .up s j) m rest → upPasses st s j m ≡ false → up st s j ≡ done 0 0 (deliveredOf st s j m rest)
+    pub up-done : Delivers st s j (st .up s j) m rest → upPasses st s j m ≡ false → up st s j ≡ done noUnits noUnits (deliveredOf st s j m rest)
     unfolding up delivered
-    up-done d room = delivery-done st s j (st .up s j) (upPasses st s j) 0 0 (delivered st s j (st .up s j)) d room ∙ rw (d .taken)
+    up-done d room = delivery-done st s j (st .up s j) (upPasses st s j) noUnits noUnits (delivered st s j (st .up s j)) d room ∙ rw (d .taken)
 
     pub down-full : Delivers st s j (st .down s j) m rest → downPassesOf st s j m ≡ true → down st s j ≡ refused st noPlace
     unfolding down
-    down-full d f = delivery-full st s j (st .down s j) (downPassesOf st s j) (entering st s j (st .down s j)) 0 (received st s j (st .down s j)) d f
+    down-full d f = delivery-full st s j (st .down s j) (downPassesOf st s j) (entering st s j (st .down s j)) noUnits (received st s j (st .down s j)) d f
 
     pub down-done : Delivers st s j (st .down s j) m rest → downPassesOf st s j m ≡ false
-        → down st s j ≡ done (enters (takenAt st s j m)) 0 (receivedAs st s j rest (takenAt st s j m))
+        → down st s j ≡ done (enters (takenAt st s j m)) noUnits (receivedAs st s j rest (takenAt st s j m))
     unfolding down received entering
     down-done d room =
-        delivery-done st s j (st .down s j) (downPassesOf st s j) (entering st s j (st .down s j)) 0 (received st s j (st .down s j)) d room ∙ rw (d .taken)
+        delivery-done st s j (st .down s j) (downPassesOf st s j) (entering st s j (st .down s j)) noUnits (received st s j (st .down s j)) d room ∙ rw (d .taken)
 
 -- ---- Release
 
-is-holding : (st : State) (s : ℕ) (p : Phase) → not (isHolding p) ≡ false → backPasses st s p ≡ false → (q h : ℕ) × (p ≡ Holding q h) × (somePasses st s q ≡ false)
+is-holding : (st : State) (s : ℕ) (p : Phase) → not (isHolding p) ≡ false → backPasses st s p ≡ false → (q : ℕ) × (h : Units) × (p ≡ Holding q h) × (somePasses st s q ≡ false)
 is-holding st s Idle e room = absurd (clash refl e)
 is-holding st s (Collecting q h m) e room = absurd (clash refl e)
 is-holding st s (Holding q h) e room = (q, h, refl, room)
 
 module _ (st : State) (s : ℕ) where
-  pub releases : releaseRefusal st s ≡ 0 → (q h : ℕ) × Releases st s q h × (somePasses st s q ≡ false)
+  pub releases : releaseRefusal st s ≡ 0 → (q : ℕ) × (h : Units) × Releases st s q h × (somePasses st s q ≡ false)
   unfolding releaseRefusal
   releases e =
       let (a, (b, (c, (d, end)))) = passes-kept (releaseTests st s) refl e in
@@ -144,17 +146,17 @@ module _ (st : State) (s : ℕ) where
 
   pub release-refused : (i : ℕ) → BrokenAt i (releaseTests st s) → ltb 0 (numberAt i (releaseTests st s)) ≡ true → release st s ≡ refused st (numberAt i (releaseTests st s))
   unfolding release releaseRefusal
-  release-refused i b n = answered-refused st 0 (held (st .phase s)) (released st s (st .phase s)) i (releaseTests st s) b n
+  release-refused i b n = answered-refused st noUnits (held (st .phase s)) (released st s (st .phase s)) i (releaseTests st s) b n
 
-  module _ {q h : ℕ} (r : Releases st s q h) where
+  module _ {q : ℕ} {h : Units} (r : Releases st s q h) where
     release-kept : Kept (take 3 (releaseTests st s))
     release-kept = (range-kept (r .range), (lt-leb (st .n) s (r .station), (rw (r .holding), tt)))
 
     pub release-full : somePasses st s q ≡ true → release st s ≡ refused st noPlace
     release-full full = release-refused 3 (release-kept, rw (r .holding) full) refl
 
-    pub release-done : somePasses st s q ≡ false → release st s ≡ done 0 h (givenBack st s q)
+    pub release-done : somePasses st s q ≡ false → release st s ≡ done noUnits h (givenBack st s q)
     unfolding release releaseRefusal released
     release-done room =
-        answered-done st 0 (held (st .phase s)) (released st s (st .phase s)) (releaseTests st s) (kept-both 3 (releaseTests st s) release-kept (rw (r .holding) room, tt))
+        answered-done st noUnits (held (st .phase s)) (released st s (st .phase s)) (releaseTests st s) (kept-both 3 (releaseTests st s) release-kept (rw (r .holding) room, tt))
         ∙ rw (r .holding)

@@ -9,11 +9,12 @@ use Rattle.lists.specs.Search.{everyBelow}
 use Rattle.lists.proofs.Searches.{every-true, every-at}
 use Rattle.lists.proofs.Tests.{and-left, and-right, and-both}
 use Rattle.quorum.specs.Limits.{brokenLimit}
+use Rattle.units.specs.Units.{askedWith}
 use Rattle.plain.specs.InRange.{upLane, downLane, phaseIn, arbiterIn, inRange}
 use Rattle.plain.specs.State.{State}
 
 pub record Ranged (st : State) : Type 0 where
-  pub limits : brokenLimit (st .n) (st .stock) (st .table) ≡ 0
+  pub limits : brokenLimit (st .n) (askedWith (st .stock)) (st .table) ≡ 0
   pub phases : (s : ℕ) → s < st .n → phaseIn (st .n) (st .stock) (st .table) (st .phase s) ≡ true
   pub arbiters : (j : ℕ) → j < st .n → arbiterIn (st .n) (st .stock) (st .arbiter j) ≡ true
   pub ups : (s : ℕ) → s < st .n → (j : ℕ) → j < st .n → upLane (st .stock) (st .up s j) ≡ true
@@ -22,8 +23,8 @@ pub record Ranged (st : State) : Type 0 where
 pub ranged : (st : State) → inRange st ≡ true → Ranged st
 unfolding inRange
 ranged st e =
-    let limits = and-left (eqb (brokenLimit (st .n) (st .stock) (st .table)) 0) _ e in
-    let rest = and-right (eqb (brokenLimit (st .n) (st .stock) (st .table)) 0) _ e in
+    let limits = and-left (eqb (brokenLimit (st .n) (askedWith (st .stock)) (st .table)) 0) _ e in
+    let rest = and-right (eqb (brokenLimit (st .n) (askedWith (st .stock)) (st .table)) 0) _ e in
     let phases = and-left (everyBelow (λ s. phaseIn (st .n) (st .stock) (st .table) (st .phase s)) (st .n)) _ rest in
     let rest′ = and-right (everyBelow (λ s. phaseIn (st .n) (st .stock) (st .table) (st .phase s)) (st .n)) _ rest in
     let arbiters = and-left (everyBelow (λ j. arbiterIn (st .n) (st .stock) (st .arbiter j)) (st .n)) _ rest′ in
@@ -31,7 +32,7 @@ ranged st e =
     let ups = and-left (everyBelow (λ s. everyBelow (λ j. upLane (st .stock) (st .up s j)) (st .n)) (st .n)) _ rest″ in
     let downs = and-right (everyBelow (λ s. everyBelow (λ j. upLane (st .stock) (st .up s j)) (st .n)) (st .n)) _ rest″ in
     record {
-      limits = eqb-true (brokenLimit (st .n) (st .stock) (st .table)) 0 limits;
+      limits = eqb-true (brokenLimit (st .n) (askedWith (st .stock)) (st .table)) 0 limits;
       phases = every-at (λ s. phaseIn (st .n) (st .stock) (st .table) (st .phase s)) (st .n) phases;
       arbiters = every-at (λ j. arbiterIn (st .n) (st .stock) (st .arbiter j)) (st .n) arbiters;
       ups = λ s p. every-at (λ j. upLane (st .stock) (st .up s j)) (st .n) (every-at (λ s. everyBelow (λ j. upLane (st .stock) (st .up s j)) (st .n)) (st .n) ups s p);
@@ -41,7 +42,7 @@ ranged st e =
 pub in-range : (st : State) → Ranged st → inRange st ≡ true
 unfolding inRange
 in-range st r =
-    and-both (eq-eqb (brokenLimit (st .n) (st .stock) (st .table)) 0 (r .limits))
+    and-both (eq-eqb (brokenLimit (st .n) (askedWith (st .stock)) (st .table)) 0 (r .limits))
     (and-both (every-true (λ s. phaseIn (st .n) (st .stock) (st .table) (st .phase s)) (st .n) (r .phases))
     (and-both (every-true (λ j. arbiterIn (st .n) (st .stock) (st .arbiter j)) (st .n) (r .arbiters))
     (and-both

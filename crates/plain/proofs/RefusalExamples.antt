@@ -8,8 +8,9 @@ use Rattle.lists.specs.Counting.{total}
 use Rattle.stations.specs.Member.{member}
 use Rattle.stations.specs.Sets.{lowestAmong, lowestFrom}
 use Rattle.quorum.specs.Limits.{brokenLimit}
+use Rattle.units.specs.Units.{requestIn, grantIn, fits, askedWith, unitsOf, stockOf}
 use Rattle.plain.specs.Answer.{Answer, answered}
-use Rattle.plain.specs.Arbiter.{arrived, fits, serve, unitsIn}
+use Rattle.plain.specs.Arbiter.{arrived, serve, unitsIn}
 use Rattle.plain.specs.Delivery.{deliveryRefusal}
 use Rattle.plain.specs.Down.{down, onward, taken, receivedAs, received, entering}
 use Rattle.plain.specs.InRange.{goesUp, goesDown, phaseIn, entryIn, arbiterIn, inRange}
@@ -25,11 +26,11 @@ use Rattle.plain.specs.declared.Phase.the-variants.{Collecting, Holding}
 
 -- two stations, two units; the only quorum is both
 abbrev both : State
-both = fresh 2 2 (3 ∷ [])
+both = fresh 2 (stockOf 2) (3 ∷ [])
 
 -- out of range: no station
 abbrev empty : State
-empty = fresh 0 0 []
+empty = fresh 0 (stockOf 0) []
 
 abbrev full : List Message
 full = Release ∷ (Release ∷ (Release ∷ (Release ∷ [])))
@@ -40,16 +41,16 @@ refusal a = a .refusal
 pub in-order :
     _≡_ {A = List (List ℕ)}
     -- Request: 19 before 8, 8 before 9, 9 before 10, 10 before 11, 11 before 14, and 14 alone
-    ((refusal (request empty 0 0 0)
-    ∷ refusal (request both 2 1 0)
-    ∷ refusal (request (withPhase 0 (Holding 0 1) both) 0 1 3)
-    ∷ refusal (request (withPhase 0 (Holding 0 1) both) 0 0 0)
-    ∷ refusal (request (withPhase 0 (Holding 0 1) both) 0 0 3)
-    ∷ refusal (request (withUp 0 0 full (withPhase 0 (Holding 0 1) both)) 0 0 2)
-    ∷ refusal (request (withUp 0 0 full (withPhase 0 (Collecting 0 1 0) both)) 0 0 1)
-    ∷ refusal (request (withUp 0 0 full both) 0 0 1)
+    ((refusal (request empty 0 0 (unitsOf 0))
+    ∷ refusal (request both 2 1 (unitsOf 0))
+    ∷ refusal (request (withPhase 0 (Holding 0 (unitsOf 1)) both) 0 1 (unitsOf 3))
+    ∷ refusal (request (withPhase 0 (Holding 0 (unitsOf 1)) both) 0 0 (unitsOf 0))
+    ∷ refusal (request (withPhase 0 (Holding 0 (unitsOf 1)) both) 0 0 (unitsOf 3))
+    ∷ refusal (request (withUp 0 0 full (withPhase 0 (Holding 0 (unitsOf 1)) both)) 0 0 (unitsOf 2))
+    ∷ refusal (request (withUp 0 0 full (withPhase 0 (Collecting 0 (unitsOf 1) 0) both)) 0 0 (unitsOf 1))
+    ∷ refusal (request (withUp 0 0 full both) 0 0 (unitsOf 1))
     -- the lane to the other member does not matter, nor that of the other station
-    ∷ refusal (request (withUp 0 1 full (withUp 1 0 full both)) 0 0 2)
+    ∷ refusal (request (withUp 0 1 full (withUp 1 0 full both)) 0 0 (unitsOf 2))
     ∷ [])
     -- Up: 19 before 8, 8 for the station and for the arbiter, 13
     ∷ (refusal (up empty 0 0) ∷ refusal (up both 2 0) ∷ refusal (up both 0 2) ∷ refusal (up both 0 0) ∷ refusal (up (withUp 0 1 full both) 0 0) ∷ [])
@@ -59,8 +60,8 @@ pub in-order :
     ∷ (refusal (release empty 0)
     ∷ refusal (release both 2)
     ∷ refusal (release both 0)
-    ∷ refusal (release (withUp 0 0 full (withPhase 0 (Collecting 0 1 0) both)) 0)
-    ∷ refusal (release (withUp 0 1 full (withPhase 0 (Holding 0 1) both)) 0)
+    ∷ refusal (release (withUp 0 0 full (withPhase 0 (Collecting 0 (unitsOf 1) 0) both)) 0)
+    ∷ refusal (release (withUp 0 1 full (withPhase 0 (Holding 0 (unitsOf 1)) both)) 0)
     ∷ [])
     ∷ [])
     ((19 ∷ 8 ∷ 9 ∷ 10 ∷ 10 ∷ 11 ∷ 11 ∷ 14 ∷ 0 ∷ [])
@@ -68,5 +69,5 @@ pub in-order :
     ∷ (19 ∷ 8 ∷ 8 ∷ 13 ∷ 13 ∷ [])
     ∷ (19 ∷ 8 ∷ 12 ∷ 12 ∷ 14 ∷ [])
     ∷ [])
-unfolding brokenLimit member lowestAmong lowestFrom at total fresh answered arrived fits serve unitsIn onward taken receivedAs received entering down goesUp goesDown keeps phaseIn entryIn arbiterIn inRange releasing releaseRefusal givenBack released release requestRefusal requested request granting deliveryRefusal deliveredOf delivered up
+unfolding brokenLimit member lowestAmong lowestFrom at total fresh answered arrived fits serve unitsIn onward taken receivedAs received entering down goesUp goesDown keeps phaseIn entryIn arbiterIn inRange releasing releaseRefusal givenBack released release requestRefusal requested request granting deliveryRefusal deliveredOf delivered up unitsOf stockOf requestIn grantIn askedWith
 in-order = refl

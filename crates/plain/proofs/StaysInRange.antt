@@ -6,10 +6,9 @@ use mathlib.Core.Logic.{by-cases, ⊎-elim}
 use mathlib.Core.Path.{_≡_, refl}
 use Prim.Native.Nat.{ℕ, suc, _<_}
 use native.Mathlib.Decide.{ℕ-discrete}
-use native.Mathlib.Omega.{arith}
-use lib.Dec.{eqb, leb, ltb}
+use lib.Dec.{eqb, ltb}
 use lib.ListN.{length}
-use borrow.Author.Tests.{eq-eqb, ne-eqb, le-leb, lt-ltb, ltb-true}
+use borrow.Author.Tests.{eq-eqb, ne-eqb, lt-ltb, ltb-true}
 use Rattle.lists.specs.At.{at, at2}
 use Rattle.lists.specs.Search.{someBelow}
 use Rattle.lists.proofs.Changed.{at-all, at2-all}
@@ -18,7 +17,10 @@ use Rattle.lists.proofs.Tests.{known, and-left, and-right, and-both, or-none}
 use Rattle.stations.specs.Member.{member}
 use Rattle.stations.specs.Sets.{lowestFrom}
 use Rattle.quorum.specs.Family.{quorum}
-use Rattle.quorum.specs.Limits.{brokenLimit, upTo}
+use Rattle.quorum.specs.Limits.{brokenLimit}
+use Rattle.units.specs.Units.{noUnits, requestIn, grantIn, askedWith}
+use Rattle.units.specs.declared.Units.{Units}
+use Rattle.units.proofs.Ranges.{none-granted}
 use Rattle.plain.specs.Arbiter.{unitsIn, grantsTo}
 use Rattle.plain.specs.Down.{Taken, onward, taken, madeOf, takenAt, downPasses, downPassesOf, receivedAs}
 use Rattle.plain.specs.Inner.Passed.{Requests, Delivers, Releases}
@@ -41,20 +43,20 @@ use Rattle.plain.proofs.Range.{Ranged, ranged, in-range}
 use Rattle.plain.proofs.Releasing.{releasing-member, releasing-other}
 use Rattle.plain.proofs.Runs.{after-keeps}
 
-fresh-ranged : (n k : ℕ) (table : List ℕ) → brokenLimit n k table ≡ 0 → Ranged (fresh n k table)
+fresh-ranged : (n : ℕ) (stock : Units) (table : List ℕ) → brokenLimit n (askedWith stock) table ≡ 0 → Ranged (fresh n stock table)
 unfolding fresh phaseIn arbiterIn keeps
-fresh-ranged n k table kept =
+fresh-ranged n stock table kept =
     record {
       limits = kept;
       phases = λ s l. refl;
-      arbiters = λ j l. and-both (every-true (λ s. leb 0 k) n (λ s b. le-leb 0 k (omega arith))) refl;
+      arbiters = λ j l. and-both (every-true (λ s. grantIn stock noUnits) n (λ s b. none-granted stock)) refl;
       ups = λ s l j b. refl;
       downs = λ s l j b. refl;
     }
 
 -- ---- Request
 
-request-ranged : (st : State) (s q h : ℕ) → Requests st s q h → requestPasses st s q h ≡ false → Ranged (requested st s q h)
+request-ranged : (st : State) (s q : ℕ) (h : Units) → Requests st s q h → requestPasses st s q h ≡ false → Ranged (requested st s q h)
 unfolding requested phaseIn goesUp
 request-ranged st s q h r room =
     let g = ranged st (r .range) in
@@ -112,36 +114,36 @@ module _ (st : State) (s j : ℕ) (m : Message) (rest : List Message) (d : Deliv
 -- ---- Down
 
 -- what a station makes of a GRANT is in range
-takenIn : ℕ → ℕ → List ℕ → Taken → Bool
-takenIn n k table (Taken.asks q h m) = phaseIn n k table (Collecting q h m)
-takenIn n k table (Taken.holds q h) = phaseIn n k table (Holding q h)
-takenIn n k table Taken.drops = true
+takenIn : ℕ → Units → List ℕ → Taken → Bool
+takenIn n stock table (Taken.asks q h m) = phaseIn n stock table (Collecting q h m)
+takenIn n stock table (Taken.holds q h) = phaseIn n stock table (Holding q h)
+takenIn n stock table Taken.drops = true
 
-onward-in : (n k : ℕ) (table : List ℕ) → brokenLimit n k table ≡ 0 → (q h j : ℕ) → ltb q (length table) ≡ true → upTo k h ≡ true → takenIn n k table (onward table q h j) ≡ true
+onward-in : (n : ℕ) (stock : Units) (table : List ℕ) → brokenLimit n (askedWith stock) table ≡ 0 → (q : ℕ) (h : Units) (j : ℕ) → ltb q (length table) ≡ true → requestIn stock h ≡ true → takenIn n stock table (onward table q h j) ≡ true
 unfolding takenIn phaseIn
-onward-in n k table kept q h j exists units =
-    onward-as n k table kept q (ltb-true q (length table) exists) (λ t. takenIn n k table t ≡ true) h j
+onward-in n stock table kept q h j exists units =
+    onward-as n stock table kept q (ltb-true q (length table) exists) (λ t. takenIn n stock table t ≡ true) h j
     (λ low. and-both exists (and-both units (lt-ltb (lowestFrom (quorum table q) (suc j)) n (low .station)))) (λ l none. and-both exists units)
 
-taken-in : (n k : ℕ) (table : List ℕ) → brokenLimit n k table ≡ 0 → (j : ℕ) (p : Phase) → phaseIn n k table p ≡ true → takenIn n k table (taken table j p) ≡ true
+taken-in : (n : ℕ) (stock : Units) (table : List ℕ) → brokenLimit n (askedWith stock) table ≡ 0 → (j : ℕ) (p : Phase) → phaseIn n stock table p ≡ true → takenIn n stock table (taken table j p) ≡ true
 unfolding takenIn taken phaseIn
-taken-in n k table kept j Idle e = refl
-taken-in n k table kept j (Collecting q h m) e = go (eqb m j)
+taken-in n stock table kept j Idle e = refl
+taken-in n stock table kept j (Collecting q h m) e = go (eqb m j)
   where
     exists : ltb q (length table) ≡ true
-    exists = and-left (ltb q (length table)) (upTo k h && ltb m n) e
+    exists = and-left (ltb q (length table)) (requestIn stock h && ltb m n) e
 
-    units : upTo k h ≡ true
-    units = and-left (upTo k h) (ltb m n) (and-right (ltb q (length table)) (upTo k h && ltb m n) e)
+    units : requestIn stock h ≡ true
+    units = and-left (requestIn stock h) (ltb m n) (and-right (ltb q (length table)) (requestIn stock h && ltb m n) e)
 
-    go : (b : Bool) → takenIn n k table (cond b (onward table q h j) Taken.drops) ≡ true
-    go true = onward-in n k table kept q h j exists units
+    go : (b : Bool) → takenIn n stock table (cond b (onward table q h j) Taken.drops) ≡ true
+    go true = onward-in n stock table kept q h j exists units
     go false = refl
-taken-in n k table kept j (Holding q h) e = refl
+taken-in n stock table kept j (Holding q h) e = refl
 
-made-in : (n k : ℕ) (table : List ℕ) → brokenLimit n k table ≡ 0 → (j : ℕ) (p : Phase) (m : Message) → phaseIn n k table p ≡ true → takenIn n k table (madeOf table j p m) ≡ true
+made-in : (n : ℕ) (stock : Units) (table : List ℕ) → brokenLimit n (askedWith stock) table ≡ 0 → (j : ℕ) (p : Phase) (m : Message) → phaseIn n stock table p ≡ true → takenIn n stock table (madeOf table j p m) ≡ true
 unfolding takenIn
-made-in n k table kept j p m e = made-as (λ t. takenIn n k table t ≡ true) table j p refl (taken-in n k table kept j p e) m
+made-in n stock table kept j p m e = made-as (λ t. takenIn n stock table t ≡ true) table j p refl (taken-in n stock table kept j p e) m
 
 module _ (st : State) (s j : ℕ) (m : Message) (rest : List Message) (d : Delivers st s j (st .down s j) m rest) where
   in-range-before : Ranged st
@@ -156,14 +158,14 @@ module _ (st : State) (s j : ℕ) (m : Message) (rest : List Message) (d : Deliv
   unfolding receivedAs takenIn phaseIn goesUp
   taken-ranged (Taken.asks q h x) e room =
       let b = in-range-before in
-      let units = and-right (ltb q (length (st .table))) (upTo (st .stock) h && ltb x (st .n)) e in
-      let below = ltb-true x (st .n) (and-right (upTo (st .stock) h) (ltb x (st .n)) units) in
+      let units = and-right (ltb q (length (st .table))) (requestIn (st .stock) h && ltb x (st .n)) e in
+      let below = ltb-true x (st .n) (and-right (requestIn (st .stock) h) (ltb x (st .n)) units) in
       record {
         limits = b .limits;
         phases = λ t l. at-all (λ p. phaseIn (st .n) (st .stock) (st .table) p ≡ true) (st .phase) s (Collecting q h x) e t (b .phases t l);
         arbiters = b .arbiters;
         ups = λ t l y c. at2-all (λ z. upLane (st .stock) z ≡ true) (st .up) s x (sent (st .up s x) (Request h))
-            (keeps-more upPlaces (goesUp (st .stock)) (st .up s x) (Request h ∷ []) (b .ups s (d .station) x below) (and-both (and-left (upTo (st .stock) h) (ltb x (st .n)) units) refl) room)
+            (keeps-more upPlaces (goesUp (st .stock)) (st .up s x) (Request h ∷ []) (b .ups s (d .station) x below) (and-both (and-left (requestIn (st .stock) h) (ltb x (st .n)) units) refl) room)
             t y (λ o. b .ups t l y c);
         downs = rest-in;
       }
@@ -193,7 +195,7 @@ module _ (st : State) (s j : ℕ) (m : Message) (rest : List Message) (d : Deliv
 
 -- ---- Release
 
-release-ranged : (st : State) (s q h : ℕ) → Releases st s q h → somePasses st s q ≡ false → Ranged (givenBack st s q)
+release-ranged : (st : State) (s q : ℕ) (h : Units) → Releases st s q h → somePasses st s q ≡ false → Ranged (givenBack st s q)
 unfolding givenBack phaseIn goesUp
 release-ranged st s q h r room =
     record {
@@ -220,8 +222,8 @@ release-ranged st s q h r room =
 -- ---- the theorem
 
 -- a fresh state of a table that passes 1 to 4 is in range
-pub fresh-in-range : (n k : ℕ) (table : List ℕ) → brokenLimit n k table ≡ 0 → inRange (fresh n k table) ≡ true
-fresh-in-range n k table kept = in-range (fresh n k table) (fresh-ranged n k table kept)
+pub fresh-in-range : (n : ℕ) (stock : Units) (table : List ℕ) → brokenLimit n (askedWith stock) table ≡ 0 → inRange (fresh n stock table) ≡ true
+fresh-in-range n stock table kept = in-range (fresh n stock table) (fresh-ranged n stock table kept)
 
 -- a call, with any numbers as arguments, keeps a state in range
 pub call-in-range : (st : State) (c : Call) → inRange st ≡ true → inRange (call st c .state) ≡ true

@@ -8,7 +8,7 @@ use Prim.Native.Nat.{ℕ, suc, _+_, _≤_, _<_}
 use native.Mathlib.Decide.{ℕ-discrete}
 use native.Mathlib.Omega.{arith}
 use lib.ListN.{length}
-use borrow.Author.Tests.{eq-eqb, ne-eqb, le-leb, lt-ltb, le-ltb}
+use borrow.Author.Tests.{eq-eqb, ne-eqb, lt-ltb, le-ltb}
 use Rattle.lists.specs.At.{at, at2}
 use Rattle.lists.specs.Counting.{total}
 use Rattle.lists.proofs.Changed.{at-same, at-other, at-all, at2-same, at2-other, at2-all}
@@ -19,7 +19,10 @@ use Rattle.stations.specs.Member.{member}
 use Rattle.stations.specs.Sets.{places, lowestFrom}
 use Rattle.stations.proofs.Lowest.{lowest-here}
 use Rattle.quorum.specs.Family.{quorum}
-use Rattle.plain.specs.Arbiter.{arrived, fits, Served, serve, unitsIn}
+use Rattle.units.specs.Units.{fits, Amount, amount}
+use Rattle.units.specs.declared.Units.{Units}
+use Rattle.units.proofs.Amounts.{Within, within-fits}
+use Rattle.plain.specs.Arbiter.{arrived, Served, serve, unitsIn}
 use Rattle.plain.specs.Down.{Taken, onward, taken, takenAt, downPasses, downPassesOf, receivedAs}
 use Rattle.plain.specs.InRange.{inRange}
 use Rattle.plain.specs.Lanes.{downPlaces, passes, sent}
@@ -37,19 +40,19 @@ use Rattle.plain.proofs.Range.{ranged}
 use Rattle.plain.proofs.StaysInRange.{call-in-range}
 use Rattle.plain.proofs.Visiting.{toward, Visiting}
 
--- arbiter i has granted h units to station s, and GRANT is under way
-unfoldable pub grantedTo : State → ℕ → ℕ → ℕ → State
+-- arbiter i has granted the units h to station s, and GRANT is under way
+unfoldable pub grantedTo : State → ℕ → Units → ℕ → State
 grantedTo st s h i =
     withDowns (granting (st .down) i (record { station = s; units = h } ∷ []))
     (withArbiter i (record { granted = at (st .arbiter i .granted) s h; line = [] }) (withUp s i [] st))
 
 -- and the station has taken the GRANT
-unfoldable pub visited : State → ℕ → ℕ → ℕ → ℕ → State
+unfoldable pub visited : State → ℕ → ℕ → Units → ℕ → State
 visited st s p h i = receivedAs (grantedTo st s h i) s i [] (onward (st .table) p h i)
 
-module _ (st : State) (was : ℕ → Phase) (s p h i : ℕ) (load : ℕ → ℕ) (v : Visiting st was s p h i load)
+module _ (a : Amount) (st : State) (was : ℕ → Phase) (s p : ℕ) (h : Units) (i : ℕ) (load : ℕ → ℕ) (v : Visiting a st was s p h i load)
     (exists : s < st .n) (below : i < st .n) (number : p < length (st .table)) (belongs : member (quorum (st .table) p) i ≡ true)
-    (room : h + load i ≤ st .stock) where
+    (room : fits (st .n) (st .stock) (st .arbiter i .granted) h ≡ true) where
   entry : Entry
   entry = record { station = s; units = h }
 
@@ -71,13 +74,9 @@ module _ (st : State) (was : ℕ → Phase) (s p h i : ℕ) (load : ℕ → ℕ)
   after-service : Served
   after-service = record { arbiter = record { granted = at (st .arbiter i .granted) s h; line = [] }; grants = entry ∷ [] }
 
-  entry-fits : fits (st .n) (st .stock) (st .arbiter i .granted) entry ≡ true
-  unfolding fits entry
-  entry-fits = le-leb (h + total (st .arbiter i .granted) (st .n)) (st .stock) (omega (arith, v .unvisited i (omega arith)))
-
   service : servedAt st s i (Request h) ≡ after-service
   unfolding arrived serve after-service entry
-  service = rw (v .lines i, entry-fits)
+  service = rw (v .lines i, room)
 
   abbrev granted : State
   granted = grantedTo st s h i
@@ -106,7 +105,7 @@ module _ (st : State) (was : ℕ → Phase) (s p h i : ℕ) (load : ℕ → ℕ)
   granted-done : call st (Call.Up s i) .state ≡ granted
   unfolding call deliveredOf grantedTo after-service entry
   granted-done =
-      ap (λ a. a .state) (up-done st s i (record { range = v .range; station = exists; arbiter = below; taken = lane }) up-room)
+      ap (λ x. x .state) (up-done st s i (record { range = v .range; station = exists; arbiter = below; taken = lane }) up-room)
       ∙ rw service
 
   -- then no lane up has a message
@@ -134,7 +133,7 @@ module _ (st : State) (was : ℕ → Phase) (s p h i : ℕ) (load : ℕ → ℕ)
   grant-taken : call granted (Call.Down s i) .state ≡ visited st s p h i
   unfolding call visited grantedTo entry
   grant-taken =
-      ap (λ a. a .state) (down-done granted s i (record { range = range-granted; station = exists; arbiter = below; taken = grant-lane }) down-room)
+      ap (λ x. x .state) (down-done granted s i (record { range = range-granted; station = exists; arbiter = below; taken = grant-lane }) down-room)
       ∙ ap (receivedAs granted s i []) taken-onward
 
   pub visit-done : call (call st (Call.Up s i) .state) (Call.Down s i) .state ≡ visited st s p h i
@@ -148,21 +147,26 @@ module _ (st : State) (was : ℕ → Phase) (s p h i : ℕ) (load : ℕ → ℕ)
 
   visited-lines : (j : ℕ) → at (st .arbiter) i (after-service .arbiter) j .line ≡ []
   unfolding after-service
-  visited-lines j = at-all (λ a. a .line ≡ []) (st .arbiter) i (after-service .arbiter) refl j (v .lines j)
+  visited-lines j = at-all (λ b. b .line ≡ []) (st .arbiter) i (after-service .arbiter) refl j (v .lines j)
 
-  visited-later : (j : ℕ) → suc i ≤ j → total (at (st .arbiter) i (after-service .arbiter) j .granted) (st .n) ≤ load j
+  visited-within : (j : ℕ) → Within (st .n) (st .stock) (at (st .arbiter) i (after-service .arbiter) j .granted)
+  unfolding after-service
+  visited-within j =
+      at-all (λ b. Within (st .n) (st .stock) (b .granted)) (st .arbiter) i (after-service .arbiter) (within-fits (st .n) (st .stock) (st .arbiter i .granted) s h room) j (v .within j)
+
+  visited-later : (j : ℕ) → suc i ≤ j → total (λ t. amount a (at (st .arbiter) i (after-service .arbiter) j .granted t)) (st .n) ≤ load j
   visited-later j l = rw (at-other (st .arbiter) i (after-service .arbiter) j (λ e. omega arith)) (v .unvisited j (omega arith))
 
-  visited-loads : (j : ℕ) → total (at (st .arbiter) i (after-service .arbiter) j .granted) (st .n) ≤ load j + cond (member (quorum (st .table) p) j) h 0
+  visited-loads : (j : ℕ) → total (λ t. amount a (at (st .arbiter) i (after-service .arbiter) j .granted t)) (st .n) ≤ load j + cond (member (quorum (st .table) p) j) (amount a h) 0
   unfolding after-service
   visited-loads j =
       by-cases (ℕ-discrete j i)
-      (λ (e : j ≡ i). rw (e, at-same (st .arbiter) i (after-service .arbiter), belongs) (omega (arith, total-at-le (st .arbiter i .granted) s h (st .n), v .unvisited i (omega arith))))
+      (λ (e : j ≡ i). rw (e, at-same (st .arbiter) i (after-service .arbiter), belongs) (omega (arith, total-at-le (amount a) (st .arbiter i .granted) s h (st .n), v .unvisited i (omega arith))))
       (λ (o : j ≡ i → ⊥). rw (at-other (st .arbiter) i (after-service .arbiter) j o) (v .loads j))
 
   asks-next : Lowest-member (st .n) (quorum (st .table) p) (suc i) (lowestFrom (quorum (st .table) p) (suc i))
       → inRange (receivedAs granted s i [] (Taken.asks p h (lowestFrom (quorum (st .table) p) (suc i)))) ≡ true
-      → Visiting (receivedAs granted s i [] (Taken.asks p h (lowestFrom (quorum (st .table) p) (suc i)))) was s p h (suc i) load
+      → Visiting a (receivedAs granted s i [] (Taken.asks p h (lowestFrom (quorum (st .table) p) (suc i)))) was s p h (suc i) load
   unfolding receivedAs grantedTo toward entry after-service
   asks-next low range =
       record {
@@ -173,6 +177,7 @@ module _ (st : State) (was : ℕ → Phase) (s p h i : ℕ) (load : ℕ → ℕ)
         ups = λ t j l o. at2-other (at2 (st .up) s i []) s m (sent (at2 (st .up) s i [] s m) (Request h)) t j o ∙ ups-empty t j l;
         downs = visited-downs;
         lines = visited-lines;
+        within = visited-within;
         unvisited = visited-later;
         loads = visited-loads;
       }
@@ -181,7 +186,7 @@ module _ (st : State) (was : ℕ → Phase) (s p h i : ℕ) (load : ℕ → ℕ)
       m = lowestFrom (quorum (st .table) p) (suc i)
 
   holds-now : (lowestFrom (quorum (st .table) p) (suc i) < places → ⊥) → inRange (receivedAs granted s i [] (Taken.holds p h)) ≡ true
-      → Visiting (receivedAs granted s i [] (Taken.holds p h)) was s p h (suc i) load
+      → Visiting a (receivedAs granted s i [] (Taken.holds p h)) was s p h (suc i) load
   unfolding receivedAs grantedTo toward entry after-service
   holds-now none range =
       record {
@@ -192,6 +197,7 @@ module _ (st : State) (was : ℕ → Phase) (s p h i : ℕ) (load : ℕ → ℕ)
         ups = λ t j l o. ups-empty t j l;
         downs = visited-downs;
         lines = visited-lines;
+        within = visited-within;
         unvisited = visited-later;
         loads = visited-loads;
       }
@@ -199,8 +205,8 @@ module _ (st : State) (was : ℕ → Phase) (s p h i : ℕ) (load : ℕ → ℕ)
       m : ℕ
       m = lowestFrom (quorum (st .table) p) (suc i)
 
-  pub visit : Visiting (visited st s p h i) was s p h (suc i) load
+  pub visit : Visiting a (visited st s p h i) was s p h (suc i) load
   unfolding visited
   visit =
-      onward-next (λ t. inRange (receivedAs granted s i [] t) ≡ true → Visiting (receivedAs granted s i [] t) was s p h (suc i) load)
+      onward-next (λ t. inRange (receivedAs granted s i [] t) ≡ true → Visiting a (receivedAs granted s i [] t) was s p h (suc i) load)
       asks-next holds-now range-visited

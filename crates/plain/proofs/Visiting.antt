@@ -16,7 +16,9 @@ use Rattle.stations.specs.Member.{member}
 use Rattle.stations.specs.Sets.{places, lowestFrom}
 use Rattle.stations.proofs.Lowest.{lowest-later}
 use Rattle.quorum.specs.Family.{quorum}
-use Rattle.quorum.specs.Limits.{upTo}
+use Rattle.units.specs.Units.{requestIn, Amount, amount}
+use Rattle.units.specs.declared.Units.{Units}
+use Rattle.units.proofs.Amounts.{Within}
 use Rattle.plain.specs.Inner.Passed.{Requests}
 use Rattle.plain.specs.InRange.{inRange}
 use Rattle.plain.specs.Lanes.{sent}
@@ -31,22 +33,28 @@ use Rattle.plain.proofs.Passed.{request-done}
 use Rattle.plain.proofs.Range.{ranged}
 use Rattle.plain.proofs.StaysInRange.{call-in-range}
 
--- no message is under way and no line has an entry, the stations from s on are idle, and no arbiter has granted more than its load
-pub record Calm (st : State) (s : ℕ) (load : ℕ → ℕ) : Type 0 where
+-- the amount that arbiter j has granted
+abbrev pub grantedAt : Amount → State → ℕ → ℕ
+grantedAt a st j = total (λ s. amount a (st .arbiter j .granted s)) (st .n)
+
+-- no message is under way and no line has an entry, the stations from s on are idle, and no arbiter has granted more than the stock, nor more
+-- of the amount than its load
+pub record Calm (a : Amount) (st : State) (s : ℕ) (load : ℕ → ℕ) : Type 0 where
   pub range : inRange st ≡ true
   pub idle : (t : ℕ) → s ≤ t → st .phase t ≡ Idle
   pub ups : (t j : ℕ) → j < st .n → st .up t j ≡ []
   pub downs : (t j : ℕ) → st .down t j ≡ []
   pub lines : (j : ℕ) → st .arbiter j .line ≡ []
-  pub loads : (j : ℕ) → total (st .arbiter j .granted) (st .n) ≤ load j
+  pub within : (j : ℕ) → Within (st .n) (st .stock) (st .arbiter j .granted)
+  pub loads : (j : ℕ) → grantedAt a st j ≤ load j
 
 -- the phase of a station whose next member is m, 16 if there is none
-unfoldable pub toward : ℕ → ℕ → ℕ → Phase
+unfoldable pub toward : ℕ → Units → ℕ → Phase
 toward p h m = cond (ltb m places) (Collecting p h m) (Holding p h)
 
--- station s collects h units by the quorum p and has them of the members below i; REQUEST is under way to the next; the phases of the
+-- station s collects the units h by the quorum p and has them of the members below i; REQUEST is under way to the next; the phases of the
 -- others are as they were
-pub record Visiting (st : State) (was : ℕ → Phase) (s p h i : ℕ) (load : ℕ → ℕ) : Type 0 where
+pub record Visiting (a : Amount) (st : State) (was : ℕ → Phase) (s p : ℕ) (h : Units) (i : ℕ) (load : ℕ → ℕ) : Type 0 where
   pub range : inRange st ≡ true
   pub phase : st .phase s ≡ toward p h (lowestFrom (quorum (st .table) p) i)
   pub others : (t : ℕ) → (t ≡ s → ⊥) → st .phase t ≡ was t
@@ -54,12 +62,13 @@ pub record Visiting (st : State) (was : ℕ → Phase) (s p h i : ℕ) (load : �
   pub ups : (t j : ℕ) → j < st .n → (t ≡ s → j ≡ lowestFrom (quorum (st .table) p) i → ⊥) → st .up t j ≡ []
   pub downs : (t j : ℕ) → st .down t j ≡ []
   pub lines : (j : ℕ) → st .arbiter j .line ≡ []
-  pub unvisited : (j : ℕ) → i ≤ j → total (st .arbiter j .granted) (st .n) ≤ load j
-  pub loads : (j : ℕ) → total (st .arbiter j .granted) (st .n) ≤ load j + cond (member (quorum (st .table) p) j) h 0
+  pub within : (j : ℕ) → Within (st .n) (st .stock) (st .arbiter j .granted)
+  pub unvisited : (j : ℕ) → i ≤ j → grantedAt a st j ≤ load j
+  pub loads : (j : ℕ) → grantedAt a st j ≤ load j + cond (member (quorum (st .table) p) j) (amount a h) 0
 
 -- ---- Request: the lowest member is asked
 
-module _ (st : State) (s p h : ℕ) (load : ℕ → ℕ) (calm : Calm st s load) (exists : s < st .n) (number : p < length (st .table)) (units : upTo (st .stock) h ≡ true) where
+module _ (a : Amount) (st : State) (s p : ℕ) (h : Units) (load : ℕ → ℕ) (calm : Calm a st s load) (exists : s < st .n) (number : p < length (st .table)) (units : requestIn (st .stock) h ≡ true) where
   first : Lowest-member (st .n) (quorum (st .table) p) 0 (lowest st p)
   first = first-member (st .n) (st .stock) (st .table) (ranged st (calm .range) .limits) p number
 
@@ -68,9 +77,9 @@ module _ (st : State) (s p h : ℕ) (load : ℕ → ℕ) (calm : Calm st s load)
 
   pub asked-done : call st (Call.Request s p h) .state ≡ requested st s p h
   unfolding call
-  asked-done = ap (λ a. a .state) (request-done st s p h passed (rw (calm .ups s (lowest st p) (first .station)) refl))
+  asked-done = ap (λ x. x .state) (request-done st s p h passed (rw (calm .ups s (lowest st p) (first .station)) refl))
 
-  pub request-visits : Visiting (requested st s p h) (st .phase) s p h 0 load
+  pub request-visits : Visiting a (requested st s p h) (st .phase) s p h 0 load
   unfolding requested toward
   request-visits =
       record {
@@ -81,15 +90,16 @@ module _ (st : State) (s p h : ℕ) (load : ℕ → ℕ) (calm : Calm st s load)
         ups = λ t j l o. at2-other (st .up) s (lowest st p) (sent (st .up s (lowest st p)) (Request h)) t j o ∙ calm .ups t j l;
         downs = calm .downs;
         lines = calm .lines;
+        within = calm .within;
         unvisited = λ j l. calm .loads j;
         loads = λ j. omega (arith, calm .loads j);
       }
 
 -- ---- no member: nothing to do
 
-pub pass-by : (st : State) (was : ℕ → Phase) (s p h i : ℕ) (load : ℕ → ℕ) → Visiting st was s p h i load → i < places → member (quorum (st .table) p) i ≡ false
-    → Visiting st was s p h (suc i) load
-pass-by st was s p h i load v place other =
+pub pass-by : (a : Amount) (st : State) (was : ℕ → Phase) (s p : ℕ) (h : Units) (i : ℕ) (load : ℕ → ℕ) → Visiting a st was s p h i load → i < places → member (quorum (st .table) p) i ≡ false
+    → Visiting a st was s p h (suc i) load
+pass-by a st was s p h i load v place other =
     let next : lowestFrom (quorum (st .table) p) i ≡ lowestFrom (quorum (st .table) p) (suc i) = rw (sym (add-one i)) (lowest-later (quorum (st .table) p) i place other) in
     record {
       range = v .range;
@@ -99,6 +109,7 @@ pass-by st was s p h i load v place other =
       ups = rw next at (v .ups);
       downs = v .downs;
       lines = v .lines;
+      within = v .within;
       unvisited = λ j l. v .unvisited j (omega arith);
       loads = v .loads;
     }

@@ -9,15 +9,17 @@ use native.Mathlib.Decide.{decLt}
 use native.Mathlib.Omega.{arith}
 use lib.Dec.{eqb, ltb}
 use borrow.Author.Tests.{eq-eqb, ne-eqb, eqb-true, lt-ltb, le-ltb}
-use Rattle.lists.proofs.Tests.{known}
+use Rattle.lists.proofs.Tests.{known, clash}
 use Rattle.stations.specs.Member.{member}
 use Rattle.quorum.specs.Family.{quorum}
+use Rattle.units.specs.Units.{noUnits}
+use Rattle.units.specs.declared.Units.{Units}
 use Rattle.plain.specs.declared.Phase.{Phase}
 use Rattle.plain.specs.declared.Phase.the-variants.{Idle, Collecting, Holding}
 use Rattle.plain.proofs.Pairs.{Part}
 
 -- it has the units h of the members of its quorum
-unfoldable pub share : List ℕ → ℕ → ℕ → ℕ → Part
+unfoldable pub share : List ℕ → ℕ → Units → ℕ → Part
 share table q h j = cond (member (quorum table q) j) (Part.has h) Part.nothing
 
 -- collecting, it waits for the member now approached, has the units of the members below, and wants nothing of the others
@@ -26,7 +28,7 @@ wants table Idle j = Part.nothing
 wants table (Collecting q h m) j = cond (eqb j m) (Part.waits h) (cond (ltb j m) (share table q h j) Part.nothing)
 wants table (Holding q h) j = share table q h j
 
-module _ (table : List ℕ) (q h : ℕ) where
+module _ (table : List ℕ) (q : ℕ) (h : Units) where
   pub share-member : (j : ℕ) → member (quorum table q) j ≡ true → share table q h j ≡ Part.has h
   unfolding share
   share-member j e = rw e
@@ -79,30 +81,27 @@ module _ (table : List ℕ) (q h : ℕ) where
 
 -- ---- only a station that collects from j waits for j
 
-units-waited : Part → ℕ
-units-waited Part.nothing = 0
-units-waited (Part.waits h) = suc h
-units-waited (Part.has h) = 0
+is-waiting : Part → Bool
+is-waiting Part.nothing = false
+is-waiting (Part.waits h) = true
+is-waiting (Part.has h) = false
 
-share-waits-not : (table : List ℕ) (q h j : ℕ) → units-waited (share table q h j) ≡ 0
-unfolding share units-waited
+waited : Part → Units
+waited Part.nothing = noUnits
+waited (Part.waits h) = h
+waited (Part.has h) = noUnits
+
+share-waits-not : (table : List ℕ) (q : ℕ) (h : Units) (j : ℕ) → is-waiting (share table q h j) ≡ false
+unfolding share is-waiting
 share-waits-not table q h j = ⊎-elim (λ t. rw t) (λ f. rw f) (known (member (quorum table q) j))
 
-collecting-waits : (table : List ℕ) (q h m j : ℕ) → units-waited (wants table (Collecting q h m) j) ≡ cond (eqb j m) (suc h) 0
-unfolding wants units-waited
-collecting-waits table q h m j = go (eqb j m) (ltb j m)
+pub waits-for : (table : List ℕ) (p : Phase) (j : ℕ) (h : Units) → wants table p j ≡ Part.waits h → (q : ℕ) × (p ≡ Collecting q h j)
+unfolding wants is-waiting waited
+waits-for table Idle j h e = absurd (clash refl (ap is-waiting (sym e)))
+waits-for table (Collecting q h′ m) j h e = (q, go (eqb j m) refl (ltb j m) e)
   where
-    go : (a b : Bool) → units-waited (cond a (Part.waits h) (cond b (share table q h j) Part.nothing)) ≡ cond a (suc h) 0
-    go true b = refl
-    go false true = share-waits-not table q h j
-    go false false = refl
-
-pub waits-for : (table : List ℕ) (p : Phase) (j h : ℕ) → wants table p j ≡ Part.waits h → (q : ℕ) × (p ≡ Collecting q h j)
-unfolding wants units-waited
-waits-for table Idle j h e = absurd (omega (arith, ap units-waited e))
-waits-for table (Collecting q h′ m) j h e = (q, go (eqb j m) refl (sym (collecting-waits table q h′ m j) ∙ ap units-waited e))
-  where
-    go : (b : Bool) → eqb j m ≡ b → cond b (suc h′) 0 ≡ suc h → Collecting q h′ m ≡ Collecting q h j
-    go true s u = let same : h′ ≡ h = omega arith in rw (same, eqb-true j m s)
-    go false s u = absurd (omega arith)
-waits-for table (Holding q h′) j h e = absurd (omega (arith, share-waits-not table q h′ j, ap units-waited e))
+    go : (b : Bool) → eqb j m ≡ b → (c : Bool) → cond b (Part.waits h′) (cond c (share table q h′ j) Part.nothing) ≡ Part.waits h → Collecting q h′ m ≡ Collecting q h j
+    go true s c u = rw (ap waited u, eqb-true j m s)
+    go false s true u = absurd (clash (ap is-waiting u) (share-waits-not table q h′ j))
+    go false s false u = absurd (clash refl (ap is-waiting (sym u)))
+waits-for table (Holding q h′) j h e = absurd (clash (ap is-waiting e) (share-waits-not table q h′ j))

@@ -1,10 +1,11 @@
 -- An arbiter's part of Up: a message arrives, then the line is served.
-use mathlib.Core.Bool.{Bool, cond}
+use mathlib.Core.Bool.{cond}
 use mathlib.Core.List.{List, [], _∷_, map}
-use Prim.Native.Nat.{ℕ, _+_}
-use lib.Dec.{eqb, leb}
+use Prim.Native.Nat.{ℕ}
+use lib.Dec.{eqb}
 use Rattle.lists.specs.At.{at}
-use Rattle.lists.specs.Counting.{total}
+use Rattle.units.specs.Units.{noUnits, fits}
+use Rattle.units.specs.declared.Units.{Units}
 use Rattle.plain.specs.Lanes.{sent}
 use Rattle.plain.specs.State.{Arbiter}
 use Rattle.plain.specs.Updates.{withGranted, withLine}
@@ -15,12 +16,8 @@ use Rattle.plain.specs.declared.Message.the-variants.{Request, Release, 
 -- "REQUEST(h) joins the end of j's line. RELEASE sets s's granted units at j to 0." (No up lane in range has a GRANT.)
 unfoldable pub arrived : Message → ℕ → Arbiter → Arbiter
 arrived (Request h) s a = withLine (sent (a .line) (record { station = s; units = h })) a
-arrived Release s a = withGranted s 0 a
+arrived Release s a = withGranted s noUnits a
 arrived Grant s a = a
-
--- "fits (its units plus all units granted at j are at most k)"
-unfoldable pub fits : ℕ → ℕ → (ℕ → ℕ) → Entry → Bool
-fits n k granted e = leb (e .units + total granted n) k
 
 -- an arbiter after its line was served, and the entries that were granted, in their order
 pub record Served : Type 0 where
@@ -32,19 +29,19 @@ abbrev pub grantedFirst : Entry → Served → Served
 grantedFirst e r = record { arbiter = r .arbiter; grants = e ∷ r .grants }
 
 -- "while the line's first entry fits .., it leaves the line, its units become that station's granted units, and GRANT goes down"
-unfoldable pub serve : ℕ → ℕ → (ℕ → ℕ) → List Entry → Served
-serve n k granted [] = record { arbiter = record { granted = granted; line = [] }; grants = [] }
-serve n k granted (e ∷ line) =
-    cond (fits n k granted e)
-    (grantedFirst e (serve n k (at granted (e .station) (e .units)) line))
+unfoldable pub serve : ℕ → Units → (ℕ → Units) → List Entry → Served
+serve n stock granted [] = record { arbiter = record { granted = granted; line = [] }; grants = [] }
+serve n stock granted (e ∷ line) =
+    cond (fits n stock granted (e .units))
+    (grantedFirst e (serve n stock (at granted (e .station) (e .units)) line))
     (record { arbiter = record { granted = granted; line = e ∷ line }; grants = [] })
 
 -- the line of an arbiter is served
-abbrev pub served : ℕ → ℕ → Arbiter → Served
-served n k a = serve n k (a .granted) (a .line)
+abbrev pub served : ℕ → Units → Arbiter → Served
+served n stock a = serve n stock (a .granted) (a .line)
 
 -- the units of station s in a line, oldest first
-unfoldable pub unitsIn : ℕ → List Entry → List ℕ
+unfoldable pub unitsIn : ℕ → List Entry → List Units
 unitsIn s [] = []
 unitsIn s (e ∷ line) = cond (eqb (e .station) s) (e .units ∷ unitsIn s line) (unitsIn s line)
 

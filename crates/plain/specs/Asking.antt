@@ -2,6 +2,7 @@
 use mathlib.Core.Bool.{Bool}
 use mathlib.Core.List.{List}
 use Prim.Native.Nat.{ℕ}
+use Rattle.units.specs.declared.Units.{Units}
 use Rattle.plain.specs.Lanes.{upPlaces, passes, sent}
 use Rattle.plain.specs.State.{State}
 use Rattle.plain.specs.Updates.{withPhase, withUp}
@@ -10,13 +11,13 @@ use Rattle.plain.specs.declared.Message.the-variants.{Request}
 use Rattle.plain.specs.declared.Phase.the-variants.{Collecting}
 
 -- the lane up to the member m, with REQUEST(h)
-abbrev pub asked : State → ℕ → ℕ → ℕ → List Message
+abbrev pub asked : State → ℕ → Units → ℕ → List Message
 asked st s h m = sent (st .up s m) (Request h)
 
 -- "a lane .. would pass its limit"
-abbrev pub askPasses : State → ℕ → ℕ → ℕ → Bool
+abbrev pub askPasses : State → ℕ → Units → ℕ → Bool
 askPasses st s h m = passes upPlaces (asked st s h m)
 
 -- "REQUEST(h) goes up to" the member m of the quorum q, and s collects from it
-abbrev pub asking : State → ℕ → ℕ → ℕ → ℕ → State
+abbrev pub asking : State → ℕ → ℕ → Units → ℕ → State
 asking st s q h m = withPhase s (Collecting q h m) (withUp s m (asked st s h m) st)

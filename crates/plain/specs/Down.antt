@@ -7,6 +7,8 @@ use Rattle.lists.specs.At.{at}
 use Rattle.lists.specs.Broken.{Test}
 use Rattle.stations.specs.Sets.{places, lowestFrom}
 use Rattle.quorum.specs.Family.{quorum}
+use Rattle.units.specs.Units.{noUnits}
+use Rattle.units.specs.declared.Units.{Units}
 use Rattle.plain.specs.Answer.{Answer, answered}
 use Rattle.plain.specs.Asking.{askPasses, asking}
 use Rattle.plain.specs.Delivery.{deliveryTests, deliveryRefusal}
@@ -19,12 +21,12 @@ use Rattle.plain.specs.declared.Phase.the-variants.{Idle, Collecting, Ho
 
 -- what a station makes of a message: it asks the next member of its quorum for its units, it holds its units, or it drops the message
 pub data Taken : Type 0 where
-  asks : (quorum units member : ℕ) → Taken
-  holds : (quorum units : ℕ) → Taken
+  asks : (quorum : ℕ) (units : Units) (member : ℕ) → Taken
+  holds : (quorum : ℕ) (units : Units) → Taken
   drops : Taken
 
 -- "with a higher member left, REQUEST(h) goes up to the lowest such member; otherwise s holds"
-unfoldable pub onward : List ℕ → ℕ → ℕ → ℕ → Taken
+unfoldable pub onward : List ℕ → ℕ → Units → ℕ → Taken
 onward table q h j = cond (ltb (lowestFrom (quorum table q) (suc j)) places) (Taken.asks q h (lowestFrom (quorum table q) (suc j))) (Taken.holds q h)
 
 -- "If s is collecting from j .. In every other case GRANT is dropped."
@@ -44,10 +46,10 @@ abbrev pub takenAt : State → ℕ → ℕ → Message → Taken
 takenAt st s j m = madeOf (st .table) j (st .phase s) m
 
 -- "otherwise s holds and h units are entered"
-abbrev pub enters : Taken → ℕ
-enters (Taken.asks q h m) = 0
+abbrev pub enters : Taken → Units
+enters (Taken.asks q h m) = noUnits
 enters (Taken.holds q h) = h
-enters Taken.drops = 0
+enters Taken.drops = noUnits
 
 -- "a lane .. would pass its limit": only REQUEST takes a place
 abbrev pub downPasses : State → ℕ → Taken → Bool
@@ -87,10 +89,10 @@ received st s j [] = st
 received st s j (m ∷ rest) = receivedAs st s j rest (takenAt st s j m)
 
 -- the units that its oldest message enters
-unfoldable pub entering : State → ℕ → ℕ → List Message → ℕ
-entering st s j [] = 0
+unfoldable pub entering : State → ℕ → ℕ → List Message → Units
+entering st s j [] = noUnits
 entering st s j (m ∷ rest) = enters (takenAt st s j m)
 
 -- Down(s, j)
 unfoldable pub down : State → ℕ → ℕ → Answer
-down st s j = answered st (downRefusal st s j) (entering st s j (st .down s j)) 0 (received st s j (st .down s j))
+down st s j = answered st (downRefusal st s j) (entering st s j (st .down s j)) noUnits (received st s j (st .down s j))

@@ -8,6 +8,8 @@ use Rattle.lists.specs.Broken.{Test, _when_, firstBroken}
 use Rattle.lists.specs.Search.{someBelow}
 use Rattle.stations.specs.Member.{member}
 use Rattle.quorum.specs.Family.{quorum}
+use Rattle.units.specs.Units.{noUnits}
+use Rattle.units.specs.declared.Units.{Units}
 use Rattle.plain.specs.Answer.{Answer, answered}
 use Rattle.plain.specs.InRange.{inRange}
 use Rattle.plain.specs.Lanes.{upPlaces, noPlace, passes, sent}
@@ -65,11 +67,11 @@ released st s (Collecting q h m) = st
 released st s (Holding q h) = givenBack st s q
 
 -- "its h units are left": the units that a station in this phase holds
-abbrev pub held : Phase → ℕ
-held Idle = 0
-held (Collecting q h m) = 0
+abbrev pub held : Phase → Units
+held Idle = noUnits
+held (Collecting q h m) = noUnits
 held (Holding q h) = h
 
 -- Release(s)
 unfoldable pub release : State → ℕ → Answer
-release st s = answered st (releaseRefusal st s) 0 (held (st .phase s)) (released st s (st .phase s))
+release st s = answered st (releaseRefusal st s) noUnits (held (st .phase s)) (released st s (st .phase s))

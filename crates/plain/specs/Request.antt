@@ -7,7 +7,8 @@ use lib.ListN.{length}
 use Rattle.lists.specs.Broken.{Test, _when_, firstBroken}
 use Rattle.stations.specs.Sets.{lowestFrom}
 use Rattle.quorum.specs.Family.{quorum}
-use Rattle.quorum.specs.Limits.{upTo}
+use Rattle.units.specs.Units.{noUnits, requestIn}
+use Rattle.units.specs.declared.Units.{Units}
 use Rattle.plain.specs.Answer.{Answer, answered}
 use Rattle.plain.specs.Asking.{askPasses, asking}
 use Rattle.plain.specs.InRange.{inRange}
@@ -26,28 +27,28 @@ abbrev pub lowest : State → ℕ → ℕ
 lowest st q = lowestFrom (quorum (st .table) q) 0
 
 -- "a lane .. would pass its limit": the one to the lowest member
-abbrev pub requestPasses : State → ℕ → ℕ → ℕ → Bool
+abbrev pub requestPasses : State → ℕ → ℕ → Units → Bool
 requestPasses st s q h = askPasses st s h (lowest st q)
 
 -- 19; 8 "station or arbiter ≥ n"; 9 "no such quorum"; 10 "units outside 1..k"; 11 "station not idle"; 14
-abbrev pub requestTests : State → ℕ → ℕ → ℕ → List Test
+abbrev pub requestTests : State → ℕ → ℕ → Units → List Test
 requestTests st s q h =
     19 when not (inRange st)
     ∷ 8 when leb (st .n) s
     ∷ 9 when leb (length (st .table)) q
-    ∷ 10 when not (upTo (st .stock) h)
+    ∷ 10 when not (requestIn (st .stock) h)
     ∷ 11 when not (isIdle (st .phase s))
     ∷ noPlace when requestPasses st s q h
     ∷ []
 
 -- the first of them that is broken
-unfoldable pub requestRefusal : State → ℕ → ℕ → ℕ → ℕ
+unfoldable pub requestRefusal : State → ℕ → ℕ → Units → ℕ
 requestRefusal st s q h = firstBroken (requestTests st s q h)
 
 -- "s collects; REQUEST(h) goes up to the lowest member"
-unfoldable pub requested : State → ℕ → ℕ → ℕ → State
+unfoldable pub requested : State → ℕ → ℕ → Units → State
 requested st s q h = asking st s q h (lowest st q)
 
 -- Request(s, q, h)
-unfoldable pub request : State → ℕ → ℕ → ℕ → Answer
-request st s q h = answered st (requestRefusal st s q h) 0 0 (requested st s q h)
+unfoldable pub request : State → ℕ → ℕ → Units → Answer
+request st s q h = answered st (requestRefusal st s q h) noUnits noUnits (requested st s q h)

@@ -2,6 +2,8 @@
 use mathlib.Core.List.{List, [], _∷_}
 use mathlib.Core.Path.{_≡_}
 use Prim.Native.Nat.{ℕ, _+_, _≤_}
+use Rattle.units.specs.Units.{Amount, amount}
+use Rattle.units.specs.declared.Units.{Units}
 use Rattle.plain.specs.Answer.{Answer}
 use Rattle.plain.specs.Down.{down}
 use Rattle.plain.specs.Release.{release}
@@ -11,7 +13,7 @@ use Rattle.plain.specs.Up.{up}
 
 -- "Request, Up, Down and Release, with any numbers as arguments"
 pub data Call : Type 0 where
-  Request : (station quorum units : ℕ) → Call
+  Request : (station quorum : ℕ) (units : Units) → Call
   Up : (station arbiter : ℕ) → Call
   Down : (station arbiter : ℕ) → Call
   Release : (station : ℕ) → Call
@@ -33,20 +35,20 @@ unfoldable pub after : State → List Call → State
 after st [] = st
 after st (c ∷ calls) = after (call st c .state) calls
 
--- "the sum of the units entered in all answers"
-unfoldable pub entered : List Answer → ℕ
-entered [] = 0
-entered (a ∷ answers) = a .entered + entered answers
+-- "the sum of the units entered in all answers": of one amount
+unfoldable pub entered : Amount → List Answer → ℕ
+entered a [] = 0
+entered a (x ∷ answers) = amount a (x .entered) + entered a answers
 
 -- "the sum of the units left in all answers"
-unfoldable pub left : List Answer → ℕ
-left [] = 0
-left (a ∷ answers) = a .left + left answers
+unfoldable pub left : Amount → List Answer → ℕ
+left a [] = 0
+left a (x ∷ answers) = amount a (x .left) + left a answers
 
 -- "The difference is the sum of the units entered in all answers less the sum of the units left in all answers": it is d
-abbrev pub Difference : List Answer → ℕ → Type 0
-Difference answers d = entered answers ≡ left answers + d
+abbrev pub Difference : Amount → List Answer → ℕ → Type 0
+Difference a answers d = entered a answers ≡ left a answers + d
 
--- "all units entered less all units left lie between 0 and k"
-abbrev pub WithinStock : ℕ → List Answer → Type 0
-WithinStock k answers = (d : ℕ) × (d ≤ k) × Difference answers d
+-- "all units entered less all units left lie between 0 and k": of each amount, between 0 and that amount of the stock
+abbrev pub WithinStock : Units → List Answer → Type 0
+WithinStock stock answers = (a : Amount) → (d : ℕ) × (d ≤ amount a stock) × Difference a answers d

@@ -2,6 +2,7 @@
 use mathlib.Core.List.{List}
 use Prim.Native.Nat.{ℕ}
 use Rattle.lists.specs.At.{at, at2}
+use Rattle.units.specs.declared.Units.{Units}
 use Rattle.plain.specs.State.{Arbiter, State}
 use Rattle.plain.specs.declared.Entry.{Entry}
 use Rattle.plain.specs.declared.Message.{Message}
@@ -41,7 +42,7 @@ withDown s j lane st = withDowns (at2 (st .down) s j lane) st
 
 -- ---- of an arbiter the units granted to station s, its line
 
-abbrev pub withGranted : ℕ → ℕ → Arbiter → Arbiter
+abbrev pub withGranted : ℕ → Units → Arbiter → Arbiter
 withGranted s h a = record { granted = at (a .granted) s h; line = a .line }
 
 abbrev pub withLine : List Entry → Arbiter → Arbiter

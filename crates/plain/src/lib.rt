@@ -1,8 +1,9 @@
 // The plain machine: what messages, stations and lines are made of. The machine itself stands in the definitions.
+use units::Units;
 
 // REQUEST and RELEASE go up from a station to an arbiter, GRANT comes down.
 pub enum Message {
-    Request(u8),
+    Request(Units),
     Release,
     Grant,
 }
@@ -10,13 +11,20 @@ pub enum Message {
 // What a station does: nothing, collect permission for so many units from the members of a quorum, or hold them.
 pub enum Phase {
     Idle,
-    Collecting { quorum: u8, units: u8, member: u8 },
-    Holding { quorum: u8, units: u8 },
+    Collecting {
+        quorum: u8,
+        units: Units,
+        member: u8,
+    },
+    Holding {
+        quorum: u8,
+        units: Units,
+    },
 }
 
 // A place in an arbiter's line.
 #[repr(C)]
 pub struct Entry {
     pub station: u8,
-    pub units: u8,
+    pub units: Units,
 }

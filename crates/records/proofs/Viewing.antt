@@ -15,7 +15,7 @@ use Rattle.lists.proofs.Joined.{map-append}
 use Rattle.quorum.specs.Family.{quorum}
 use Rattle.plain.specs.Lanes.{upPlaces, sent}
 use Rattle.plain.specs.declared.Message.{Message}
-use Rattle.records.specs.View.{noSlot, noLane, noRow, noStation, noArbiter, messageOf, laneOf, rowOf, lanesOf, phaseOf, phasesOf, grantedOf, arbiterOf, arbitersOf, tableOf}
+use Rattle.records.specs.View.{noSlot, noLane, noRow, noStation, noArbiter, messageOf, laneOf, rowOf, lanesOf, phaseOf, phasesOf, arbiterOf, arbitersOf, tableOf}
 use Rattle.records.specs.declared.Arbiter.{Arbiter}
 use Rattle.records.specs.declared.Lane.{Lane}
 use Rattle.records.specs.declared.Lanes.{Lanes}
@@ -95,14 +95,6 @@ module _ (n : ℕ) where
   pub phases-with : (stations : List Station) (s : ℕ) (x : Station) → s < n → s < length stations → phasesOf n (set stations s x) ≡ at (phasesOf n stations) s (x .phase)
   unfolding phasesOf
   phases-with stations s x h q = shown-set n _ phaseOf noStation stations s x h q
-
-  pub granted-at : (granted : List ℕ) (s : ℕ) → s < n → grantedOf n granted s ≡ getD granted s 0
-  unfolding grantedOf
-  granted-at granted s h = shown-in n 0 (λ u. u) 0 granted s h
-
-  pub granted-with : (granted : List ℕ) (s x : ℕ) → s < n → s < length granted → grantedOf n (set granted s x) ≡ at (grantedOf n granted) s x
-  unfolding grantedOf
-  granted-with granted s x h q = shown-set n 0 (λ u. u) 0 granted s x h q
 
   pub arbiters-at : (arbiters : List Arbiter) (j : ℕ) → j < n → arbitersOf n arbiters j ≡ arbiterOf n (getD arbiters j noArbiter)
   unfolding arbitersOf

@@ -3,6 +3,8 @@ use mathlib.Core.List.{List, [], map}
 use Prim.Native.Nat.{ℕ}
 use Rattle.lists.specs.Cut.{cut}
 use Rattle.lists.specs.Shown.{shown}
+use Rattle.units.specs.Granted.{grantedOf}
+use Rattle.units.specs.Units.{noUnits}
 use Rattle.plain.specs.State.{Arbiter as PlainArbiter, State, emptyArbiter}
 use Rattle.plain.specs.declared.Entry.{Entry}
 use Rattle.plain.specs.declared.Message.{Message}
@@ -20,7 +22,7 @@ use Rattle.records.specs.declared.Station.{Station}
 -- ---- what stands for a place past the end of an array: a record made by hand may give such a length
 
 abbrev pub noSlot : Slot
-noSlot = record { message = Request 0 }
+noSlot = record { message = Request noUnits }
 
 abbrev pub noLane : Lane
 noLane = record { len = 0; slots = [] }
@@ -29,7 +31,7 @@ abbrev pub noRow : Row
 noRow = record { lanes = [] }
 
 abbrev pub noEntry : Entry
-noEntry = record { station = 0; units = 0 }
+noEntry = record { station = 0; units = noUnits }
 
 abbrev pub noStation : Station
 noStation = record { phase = Idle }
@@ -60,10 +62,6 @@ phaseOf s = s .phase
 -- what each station does: idle from n on
 unfoldable pub phasesOf : ℕ → List Station → ℕ → Phase
 phasesOf n stations = shown n Idle phaseOf noStation stations
-
--- the units that an arbiter has granted to each station
-unfoldable pub grantedOf : ℕ → List ℕ → ℕ → ℕ
-grantedOf n granted = shown n 0 (λ units. units) 0 granted
 
 -- an arbiter of n stations
 unfoldable pub arbiterOf : ℕ → Arbiter → PlainArbiter

@@ -13,16 +13,17 @@ use crate::Row;
 use crate::Slot;
 use crate::UP_PLACES;
 use plain::Message;
+use units::Units;
 
 // Whether the message of a place may stand in a lane of this direction.
-fn message_goes(slot: Slot, k: usize, upward: bool) -> bool
-    ensures { λ r. ⌜ r ≡ goes upward k (slot .message) ⌝ }
+fn message_goes(slot: Slot, stock: Units, upward: bool) -> bool
+    ensures { λ r. ⌜ r ≡ goes upward stock (slot .message) ⌝ }
 {
     let m = slot.message;
     match m {
         Message::Request(h) => {
             if upward {
-                return quorum::limits::up_to(k, h as usize);
+                return units::request_in(stock, h);
             }
             false
         }
@@ -42,8 +43,8 @@ fn places(upward: bool) -> usize
 }
 
 // Whether a lane keeps its limit and has only such messages.
-fn lane_in(l: Lane, k: usize, upward: bool) -> bool
-    ensures { λ r. ⌜ r ≡ laneIn upward k (laneOf l) ⌝ }
+fn lane_in(l: Lane, stock: Units, upward: bool) -> bool
+    ensures { λ r. ⌜ r ≡ laneIn upward stock (laneOf l) ⌝ }
 {
     let len = l.len as usize;
     if places(upward) < len {
@@ -51,42 +52,42 @@ fn lane_in(l: Lane, k: usize, upward: bool) -> bool
     }
     let slots = l.slots;
     let mut i: usize = 0;
-    while i < len && message_goes(slots[i], k, upward) {
+    while i < len && message_goes(slots[i], stock, upward) {
         i += 1;
     }
     i == len
 }
 
-fn row_in(w: Row, n: usize, k: usize, upward: bool) -> bool
+fn row_in(w: Row, n: usize, stock: Units, upward: bool) -> bool
     requires { ⌜ n ≤ mostStations ⌝ }
-    ensures { λ r. ⌜ r ≡ rowIn upward n k (rowOf n w) ⌝ }
+    ensures { λ r. ⌜ r ≡ rowIn upward n stock (rowOf n w) ⌝ }
 {
     let lanes = w.lanes;
     let mut j: usize = 0;
-    while j < n && lane_in(lanes[j], k, upward) {
+    while j < n && lane_in(lanes[j], stock, upward) {
         j += 1;
     }
     j == n
 }
 
-fn lanes_in(t: Lanes, n: usize, k: usize, upward: bool) -> bool
+fn lanes_in(t: Lanes, n: usize, stock: Units, upward: bool) -> bool
     requires { ⌜ n ≤ mostStations ⌝ }
-    ensures { λ r. ⌜ r ≡ lanesIn upward n k (lanesOf n t) ⌝ }
+    ensures { λ r. ⌜ r ≡ lanesIn upward n stock (lanesOf n t) ⌝ }
 {
     let rows = t.rows;
     let mut s: usize = 0;
-    while s < n && row_in(rows[s], n, k, upward) {
+    while s < n && row_in(rows[s], n, stock, upward) {
         s += 1;
     }
     s == n
 }
 
-pub(crate) fn both_in(up: Lanes, down: Lanes, n: usize, k: usize) -> bool
+pub(crate) fn both_in(up: Lanes, down: Lanes, n: usize, stock: Units) -> bool
     requires { ⌜ n ≤ mostStations ⌝ }
-    ensures { λ r. ⌜ r ≡ (lanesIn true n k (lanesOf n up) && lanesIn false n k (lanesOf n down)) ⌝ }
+    ensures { λ r. ⌜ r ≡ (lanesIn true n stock (lanesOf n up) && lanesIn false n stock (lanesOf n down)) ⌝ }
 {
-    if !lanes_in(up, n, k, true) {
+    if !lanes_in(up, n, stock, true) {
         return false;
     }
-    lanes_in(down, n, k, false)
+    lanes_in(down, n, stock, false)
 }

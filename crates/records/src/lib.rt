@@ -9,6 +9,7 @@ ghost use Rattle.records.specs.View.{arbiterOf, view};
 use plain::Entry;
 use plain::Message;
 use plain::Phase;
+use units::Units;
 
 mod arbiter_range;
 mod lane_range;
@@ -52,14 +53,14 @@ pub struct Station {
 // The units granted to each station, and the line of those that wait, oldest first.
 #[repr(C)]
 pub struct Arbiter {
-    pub granted: [u8; STATIONS],
+    pub granted: [Units; STATIONS],
     pub len: u8,
     pub line: [Entry; LINE_PLACES],
 }
 
 pub struct Record {
     pub n: u8,
-    pub stock: u8,
+    pub stock: Units,
     pub quorums: u8,
     pub table: [u16; quorum::MOST_QUORUMS],
     pub stations: [Station; STATIONS],
@@ -69,13 +70,13 @@ pub struct Record {
 }
 
 // Whether an arbiter of at most twelve stations is in range.
-pub fn arbiter_in_range(a: Arbiter, n: usize, k: usize) -> bool
-    ensures { λ r. ⌜ r ≡ (leb n mostStations && arbiterIn n k (arbiterOf n a)) ⌝ }
+pub fn arbiter_in_range(a: Arbiter, n: usize, stock: Units) -> bool
+    ensures { λ r. ⌜ r ≡ (leb n mostStations && arbiterIn n stock (arbiterOf n a)) ⌝ }
 {
     if STATIONS < n {
         return false;
     }
-    arbiter_range::arbiter_in(a, n, k)
+    arbiter_range::arbiter_in(a, n, stock)
 }
 
 // Whether the record is in range.
@@ -83,21 +84,21 @@ pub fn in_range(r: Record) -> bool
     ensures { λ b. ⌜ b ≡ inRange (view r) ⌝ }
 {
     let n = r.n as usize;
-    let k = r.stock as usize;
+    let stock = r.stock;
     let quorums = r.quorums as usize;
     let table = r.table;
-    if !limits::limits_kept(n, k, quorums, table) {
+    if !limits::limits_kept(n, units::asked_with(stock), quorums, table) {
         return false;
     }
     let stations = r.stations;
-    if !station_range::stations_in(stations, n, k, quorums) {
+    if !station_range::stations_in(stations, n, stock, quorums) {
         return false;
     }
     let arbiters = r.arbiters;
-    if !arbiter_range::arbiters_in(arbiters, n, k) {
+    if !arbiter_range::arbiters_in(arbiters, n, stock) {
         return false;
     }
     let up = r.up;
     let down = r.down;
-    lane_range::both_in(up, down, n, k)
+    lane_range::both_in(up, down, n, stock)
 }

@@ -1,7 +1,6 @@
 // Refusal 14, on records made by hand: a lane or a line would pass its limit. After each refusal the calls that
 // follow find everything where it was.
 use plain::Message;
-use plain::Phase;
 use records::Record;
 use scripts::by_hand;
 use scripts::script;
@@ -15,19 +14,12 @@ fn up_lane(p2: Record) {
         b"full lane, request: request(0,0,1) up(0,0) request(0,0,1) up(0,0) up(0,0) up(0,0) down(0,0) up(0,0) down(0,0)",
     );
     let second = by_hand::with_up(p2, 0, 1, full);
-    let holding = Phase::Holding {
-        quorum: 0,
-        units: 1,
-    };
+    let holding = by_hand::holding(0, 1);
     script::play(
         by_hand::with_phase(second, 0, holding),
         b"full lane, release: release(0) up(0,0) up(0,1) release(0) up(0,0)",
     );
-    let collecting = Phase::Collecting {
-        quorum: 0,
-        units: 1,
-        member: 0,
-    };
+    let collecting = by_hand::collecting(0, 1, 0);
     let granted = by_hand::with_down(second, 0, 0, by_hand::lane(1, Message::Grant));
     script::play(
         by_hand::with_phase(granted, 0, collecting),
@@ -38,7 +30,7 @@ fn up_lane(p2: Record) {
 // Twelve wait, and the first of them fits: a REQUEST has no place all the same. A RELEASE needs none.
 fn line(p2: Record) {
     let mut r = by_hand::with_arbiter(p2, 0, by_hand::waiting(12, 1, 1));
-    r = by_hand::with_up(r, 0, 0, by_hand::lane(1, Message::Request(1)));
+    r = by_hand::with_up(r, 0, 0, by_hand::lane(1, by_hand::request(1)));
     r = by_hand::with_up(r, 2, 0, by_hand::lane(1, Message::Release));
     script::play(
         r,
@@ -50,7 +42,7 @@ fn line(p2: Record) {
 fn down_lane(p2: Record) {
     let two = by_hand::with_down(p2, 1, 0, by_hand::lane(2, Message::Grant));
     script::play(
-        by_hand::with_up(two, 1, 0, by_hand::lane(1, Message::Request(1))),
+        by_hand::with_up(two, 1, 0, by_hand::lane(1, by_hand::request(1))),
         b"full lane, grant: up(1,0) down(1,0) up(1,0) down(1,0) down(1,0) down(1,0)",
     );
 }

@@ -1,6 +1,5 @@
 // What a station makes of a GRANT that it does not wait for, on records made by hand from P2.
 use plain::Message;
-use plain::Phase;
 use records::Record;
 use scripts::by_hand;
 use scripts::script;
@@ -9,10 +8,7 @@ use scripts::script;
 fn not_collecting(p2: Record) {
     let r = by_hand::with_down(p2, 0, 0, by_hand::lane(1, Message::Grant));
     script::play(r, b"grant to idle: down(0,0) down(0,0) request(0,0,1)");
-    let holding = Phase::Holding {
-        quorum: 0,
-        units: 1,
-    };
+    let holding = by_hand::holding(0, 1);
     script::play(
         by_hand::with_phase(r, 0, holding),
         b"grant to holding: down(0,0) down(0,0) release(0)",
@@ -22,11 +18,7 @@ fn not_collecting(p2: Record) {
 // From member 1, while the station collects from member 0.
 fn other_member(p2: Record) {
     let grant = by_hand::lane(1, Message::Grant);
-    let collecting = Phase::Collecting {
-        quorum: 0,
-        units: 1,
-        member: 0,
-    };
+    let collecting = by_hand::collecting(0, 1, 0);
     let mut r = by_hand::with_phase(p2, 0, collecting);
     r = by_hand::with_down(r, 0, 0, grant);
     r = by_hand::with_down(r, 0, 1, grant);
@@ -38,11 +30,7 @@ fn other_member(p2: Record) {
 
 // The station approached is not in the quorum, which is that of 0 and 2: the lowest member above it is asked next.
 fn no_member(p2: Record) {
-    let collecting = Phase::Collecting {
-        quorum: 1,
-        units: 1,
-        member: 1,
-    };
+    let collecting = by_hand::collecting(1, 1, 1);
     let r = by_hand::with_phase(p2, 0, collecting);
     script::play(
         by_hand::with_down(r, 0, 1, by_hand::lane(1, Message::Grant)),

@@ -1,7 +1,6 @@
 // The examples of refusals 8 to 13. After each refusal a call goes on as if there had been none.
 use calls::Answer;
 use plain::Message;
-use plain::Phase;
 use records::Record;
 use scripts::by_hand;
 use scripts::report;
@@ -52,11 +51,7 @@ fn in_order(p2: Record) {
     );
     let full = by_hand::with_up(p2, 0, 0, by_hand::lane(4, Message::Release));
     script::play(full, b"12 before 14: release(0)");
-    let collecting = Phase::Collecting {
-        quorum: 0,
-        units: 1,
-        member: 0,
-    };
+    let collecting = by_hand::collecting(0, 1, 0);
     let running = by_hand::with_phase(full, 0, collecting);
     script::play(
         running,

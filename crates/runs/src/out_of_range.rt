@@ -16,7 +16,7 @@ fn empty_record(empty: Record) {
 // No stock, and a station or arbiter that there is not.
 fn before_8(p2: Record) {
     let mut r = p2;
-    r.stock = 0;
+    r.stock = by_hand::units(0);
     script::play(
         r,
         b"19 before 8: request(3,0,1) up(3,0) down(0,3) release(3)",
@@ -27,11 +27,11 @@ fn lanes(p2: Record) {
     changed::up_lane(p2, 4, Message::Release);
     changed::up_lane(p2, 5, Message::Release);
     changed::up_lane(p2, 1, Message::Grant);
-    changed::up_lane(p2, 1, Message::Request(0));
-    changed::up_lane(p2, 1, Message::Request(2));
+    changed::up_lane(p2, 1, by_hand::request(0));
+    changed::up_lane(p2, 1, by_hand::request(2));
     changed::down_lane(p2, 2, Message::Grant);
     changed::down_lane(p2, 3, Message::Grant);
-    changed::down_lane(p2, 1, Message::Request(1));
+    changed::down_lane(p2, 1, by_hand::request(1));
     changed::down_lane(p2, 1, Message::Release);
 }
 

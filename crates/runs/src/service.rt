@@ -34,11 +34,11 @@ fn units_counted(shared: Record) {
 fn own_grant(shared: Record) {
     let mut lane = by_hand::lane(2, Message::Release);
     let ask = Slot {
-        message: Message::Request(2),
+        message: by_hand::request(2),
     };
     lane.slots[0] = ask;
     let mut arbiter = by_hand::waiting(0, 0, 0);
-    arbiter.granted[1] = 2;
+    arbiter.granted[1] = by_hand::units(2);
     let r = by_hand::with_arbiter(shared, 0, arbiter);
     script::play(
         by_hand::with_up(r, 1, 0, lane),

@@ -12,6 +12,7 @@ use records::STATIONS;
 use records::Slot;
 use records::Station;
 use records::UP_PLACES;
+use units::Units;
 
 // A fresh record, made without a line of its own.
 pub fn fresh(n: usize, k: usize, quorums: &[u16]) -> Record {
@@ -23,6 +24,30 @@ pub fn fresh(n: usize, k: usize, quorums: &[u16]) -> Record {
 // Of n stations 0 alone is asked.
 pub fn one_asked(n: usize, k: usize) -> Record {
     fresh(n, k, &[1])
+}
+
+// Any units that a byte can hold, in range or not.
+pub fn units(number: u8) -> Units {
+    Units { positions: number }
+}
+
+pub fn request(number: u8) -> Message {
+    Message::Request(units(number))
+}
+
+pub fn collecting(quorum: u8, number: u8, member: u8) -> Phase {
+    Phase::Collecting {
+        quorum,
+        units: units(number),
+        member,
+    }
+}
+
+pub fn holding(quorum: u8, number: u8) -> Phase {
+    Phase::Holding {
+        quorum,
+        units: units(number),
+    }
 }
 
 // The same message in all places of the lane.
@@ -72,10 +97,13 @@ pub fn with_phase(r: Record, s: usize, phase: Phase) -> Record
 }
 
 // The same entry in all places of the line, and nothing granted.
-pub fn waiting(len: u8, station: u8, units: u8) -> Arbiter {
-    let entry = Entry { station, units };
+pub fn waiting(len: u8, station: u8, number: u8) -> Arbiter {
+    let entry = Entry {
+        station,
+        units: units(number),
+    };
     Arbiter {
-        granted: [0u8; STATIONS],
+        granted: [units(0); STATIONS],
         len,
         line: [entry; LINE_PLACES],
     }

@@ -3,12 +3,11 @@ use crate::by_hand;
 use crate::report;
 use crate::script;
 use plain::Message;
-use plain::Phase;
 use records::Record;
 
 fn print_message(m: Message) {
     match m {
-        Message::Request(h) => report::number(b" REQUEST ", h as usize),
+        Message::Request(u) => report::number(b" REQUEST ", units::number_of(u) as usize),
         Message::Release => report::text(b" RELEASE"),
         Message::Grant => report::text(b" GRANT"),
     }
@@ -41,24 +40,20 @@ pub fn arbiter(p2: Record, granted: u8, len: u8, station: u8, units: u8) {
     report::pair(b"arbiter(", granted as usize, len as usize);
     report::pair(b",", station as usize, units as usize);
     let mut a = by_hand::waiting(len, station, units);
-    a.granted[1] = granted;
+    a.granted[1] = by_hand::units(granted);
     asked(by_hand::with_arbiter(p2, 2, a));
 }
 
 pub fn collecting(p2: Record, quorum: u8, units: u8, member: u8) {
     report::pair(b"collecting(", quorum as usize, units as usize);
     report::number(b",", member as usize);
-    let phase = Phase::Collecting {
-        quorum,
-        units,
-        member,
-    };
+    let phase = by_hand::collecting(quorum, units, member);
     asked(by_hand::with_phase(p2, 2, phase));
 }
 
 pub fn holding(p2: Record, quorum: u8, units: u8) {
     report::pair(b"holding(", quorum as usize, units as usize);
-    let phase = Phase::Holding { quorum, units };
+    let phase = by_hand::holding(quorum, units);
     script::call(b")", by_hand::with_phase(p2, 2, phase), b"release(2)");
 }
 
@@ -68,7 +63,7 @@ pub fn sizes(twelve: Record, n: u8, stock: u8, quorums: u8, set: u16) {
     report::pair(b",", quorums as usize, set as usize);
     let mut r = twelve;
     r.n = n;
-    r.stock = stock;
+    r.stock = by_hand::units(stock);
     r.quorums = quorums;
     r.table = [set; quorum::MOST_QUORUMS];
     asked(r);

@@ -25,10 +25,11 @@ fn lanes(message: Message) -> Lanes {
 // Nothing is granted to station 0, and nobody waits.
 fn arbiters() -> [Arbiter; STATIONS] {
     let mut bad = by_hand::waiting(200, 99, 0);
-    bad.granted = [255u8; STATIONS];
+    let most = by_hand::units(255);
+    bad.granted = [most; STATIONS];
     let mut first = by_hand::waiting(0, 99, 0);
-    first.granted = [255u8; STATIONS];
-    first.granted[0] = 0;
+    first.granted = [most; STATIONS];
+    first.granted[0] = by_hand::units(0);
     let mut all = [bad; STATIONS];
     all[0] = first;
     all
@@ -39,21 +40,18 @@ pub fn filled() -> Record {
     let mut table = [65535u16; quorum::MOST_QUORUMS];
     table[0] = 1;
     let bad = Station {
-        phase: Phase::Holding {
-            quorum: 9,
-            units: 0,
-        },
+        phase: by_hand::holding(9, 0),
     };
     let mut stations = [bad; STATIONS];
     stations[0] = Station { phase: Phase::Idle };
     Record {
         n: 1,
-        stock: 1,
+        stock: by_hand::units(1),
         quorums: 1,
         table,
         stations,
         arbiters: arbiters(),
         up: lanes(Message::Grant),
-        down: lanes(Message::Request(0)),
+        down: lanes(by_hand::request(0)),
     }
 }

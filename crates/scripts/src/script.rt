@@ -54,8 +54,8 @@ fn answer(r: Record, call: &[u8]) -> Answer {
 // The line's end, and the record that the machine handed back.
 pub fn answered(a: Answer) -> Record {
     report::number(b" refused=", a.refusal as usize);
-    report::number(b" entered=", a.entered as usize);
-    report::number(b" left=", a.left as usize);
+    report::number(b" entered=", units::number_of(a.entered) as usize);
+    report::number(b" left=", units::number_of(a.left) as usize);
     report::text(b"\n");
     a.record
 }

@@ -4,6 +4,7 @@ use Prim.Native.Nat.{ℕ, _≤_, _<_}
 use lib.ListN.{getD}
 use Rattle.lists.specs.Broken.{_when_, firstBroken}
 use Rattle.quorum.specs.Limits.{mostStations}
+use Rattle.units.specs.declared.Units.{Units}
 use Rattle.plain.specs.Arbiter.{arrived}
 use Rattle.plain.specs.Lanes.{linePlaces, passes}
 use Rattle.plain.specs.State.{Arbiter as PlainArbiter}
@@ -25,5 +26,5 @@ pub record Serves (n : ℕ) (a : Arbiter) : Type 0 where
   pub named : Named n (a .len) (a .line)
 
 -- a lent arbiter's call that has passed 2, 19, 8 and 10
-abbrev pub delivering : ℕ → ℕ → Message → PlainArbiter → Lending
-delivering k s m a = lentBy (firstBroken (lineFull when passes linePlaces (arrived m s a .line) ∷ [])) k s m a
+abbrev pub delivering : Units → ℕ → Message → PlainArbiter → Lending
+delivering stock s m a = lentBy (firstBroken (lineFull when passes linePlaces (arrived m s a .line) ∷ [])) stock s m a

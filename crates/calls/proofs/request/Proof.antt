@@ -2,14 +2,15 @@
 -- Assumes nothing.
 use mathlib.Core.Bool.{true, false, not}
 use mathlib.Core.Path.{_≡_, refl, sym, ap, _∙_}
-use Prim.Native.Nat.{_≤_, _<_}
+use Prim.Native.Nat.{_<_}
 use native.Mathlib.Omega.{arith}
 use lib.ListN.{length, getD, take}
 use borrow.Author.Needs.{needs}
 use borrow.Author.Tests.{not-false, le-leb, lt-leb}
 use Rattle.lists.proofs.Broken.{Kept}
-use Rattle.quorum.specs.Limits.{mostStations, mostUnits, mostQuorums, upTo}
-use Rattle.quorum.proofs.Promises.{up-to}
+use Rattle.quorum.specs.Limits.{mostStations, mostQuorums}
+use Rattle.units.specs.Units.{requestIn, unitsOf}
+use Rattle.units.proofs.Numbers.{request-stored, requested-stored}
 use Rattle.plain.specs.InRange.{inRange}
 use Rattle.plain.specs.Inner.Passed.{Requests}
 use Rattle.plain.specs.Request.{isIdle, requestTests}
@@ -48,7 +49,7 @@ module _ (c : tie.Else2) where
   below : start .args .s < mostStations
   below = omega (arith, c .if2 .left, few r range)
 
-  kept : Kept (take 2 (requestTests (view r) (start .args .s) (start .args .q) (start .args .h)))
+  kept : Kept (take 2 (requestTests (view r) (start .args .s) (start .args .q) (unitsOf (start .args .h))))
   unfolding view
   kept = (in-range (c .before), (lt-leb _ _ (c .if2 .left), tt))
 
@@ -63,23 +64,33 @@ module _ (c : tie.Else3) where
   exists : start (c .before) .args .q < length (view (r (c .before)) .table)
   exists = omega (arith, table-length (r (c .before)), c .if3 .left)
 
-  kept-9 : Kept (take 3 (requestTests (view (r (c .before))) (start (c .before) .args .s) (start (c .before) .args .q) (start (c .before) .args .h)))
+  kept-9 : Kept (take 3 (requestTests (view (r (c .before))) (start (c .before) .args .s) (start (c .before) .args .q) (unitsOf (start (c .before) .args .h))))
   kept-9 = (kept (c .before) .0, (kept (c .before) .1 .0, (lt-leb _ _ exists, tt)))
+
+-- the units are tested as they are stored
+module _ (c : tie.After-request-in) where
+  abbrev asked : tie.Else2
+  asked = c .before .before .before .before
+
+  tested : c .request-in .result ≡ requestIn (r asked .stock) (unitsOf (start asked .args .h))
+  tested =
+      c .request-in .ensures ∙ ap (requestIn (r asked .stock)) (c .before .units-of .ensures)
+      ∙ request-stored (r asked .stock) (start asked .args .h) (limits (r asked) (range asked) .stock .1)
 
 returns-4 : tie.Need-returns-4
 unfolding view
 returns-4 c =
     let u = c .before .before in
-    let k = kept-9 (u .before) in
-    (c .refuse4 .ensures .0 ∙ sym (request-refused _ _ _ _ 3 (k, ap not (sym (u .up-to .ensures)) ∙ c .before .if4 .taken) refl), λ z. c .refuse4 .ensures .1)
+    let k = kept-9 (u .before .before .before) in
+    (c .refuse4 .ensures .0 ∙ sym (request-refused _ _ _ _ 3 (k, ap not (sym (tested u)) ∙ c .before .if4 .taken) refl), λ z. c .refuse4 .ensures .1)
 
 -- and 10
 module _ (c : tie.Else4) where
   abbrev others : tie.Else2
-  others = c .before .before .before
+  others = asked (c .before)
 
-  units : not (upTo (r others .stock) (start others .args .h)) ≡ false
-  units = ap not (sym (c .before .up-to .ensures)) ∙ c .if4 .left
+  units : not (requestIn (r others .stock) (unitsOf (start others .args .h))) ≡ false
+  units = ap not (sym (tested (c .before))) ∙ c .if4 .left
 
   abbrev phase : Phase
   phase = getD (r others .stations) (start others .args .s) noStation .phase
@@ -93,7 +104,7 @@ unfolding view
 returns-5 c =
     let i = c .before .before in
     let f = i .before .before in
-    let k = kept-9 (f .before .before) in (
+    let k = kept-9 (f .before .before .before .before) in (
       c .refuse5 .ensures .0
           ∙ sym (request-refused _ _ _ _ 4 ((k .0, (k .1 .0, (k .1 .1 .0, (units f, tt)))), ap (λ (p : Phase). not (isIdle p)) (phase-is f) ∙ ap not (sym (i .is-idle .ensures)) ∙ c .before .if5 .taken) refl),
       λ z. c .refuse5 .ensures .1,
@@ -107,36 +118,42 @@ module _ (c : tie.Else5) where
   abbrev args : tie.Start
   args = start (others before)
 
-  passed : Requests (view (args .args .t1)) (args .args .s) (args .args .q) (args .args .h)
+  passed : Requests (view (args .args .t1)) (args .args .s) (args .args .q) (unitsOf (args .args .h))
   unfolding view
   passed =
       record {
         range = range (others before);
         station = others before .if2 .left;
-        quorum = exists (before .before .before);
+        quorum = exists (before .before .before .before .before);
         units = not-false _ (units before);
         idle = is-idle _ (ap (λ (p : Phase). not (isIdle p)) (phase-is before) ∙ ap not (sym (c .before .is-idle .ensures)) ∙ c .if5 .left);
       }
 
   few-quorums : args .args .q < mostQuorums
-  few-quorums = omega (arith, before .before .before .if3 .left, quorums-few (args .args .t1) (range (others before)))
+  few-quorums = omega (arith, before .before .before .before .before .if3 .left, quorums-few (args .args .t1) (range (others before)))
 
-  few-units : args .args .h ≤ mostUnits
-  few-units = omega (arith, up-to (args .args .t1 .stock) (args .args .h) (units before) .1, limits (args .args .t1) (range (others before)) .stock .1)
+  -- what is asked for are the caller's units
+  is-units : before .before .before .units-of .result ≡ unitsOf (args .args .h)
+  is-units =
+      before .before .before .units-of .ensures
+      ∙ requested-stored (args .args .t1 .stock) (args .args .h)
+      (request-stored (args .args .t1 .stock) (args .args .h) (limits (args .args .t1) (range (others before)) .stock .1) ∙ not-false _ (units before))
 
 module _ (c : tie.After-lowest-from) where
   abbrev all : tie.Else5
   all = c .before .before
 
   station : c .lowest-from .result < args all .args .t1 .n
-  station = omega (arith, c .lowest-from .ensures, lowest-station (args all .args .t1) (args all .args .s) (args all .args .q) (args all .args .h) (passed all))
+  station = omega (arith, c .lowest-from .ensures, lowest-station (args all .args .t1) (args all .args .s) (args all .args .q) (unitsOf (args all .args .h)) (passed all))
 
 returns-6 : tie.Need-returns-6
 returns-6 c =
     let l = c .before in
     let st = args (all l) in
-    let r = st .args .t1 in (
-      c .ask .ensures .0 ∙ sym (request-asks (view r) (st .args .s) (st .args .q) (st .args .h) (passed (all l)) ∙ ap (askAnswer (view r) (st .args .s) (st .args .q) (st .args .h)) (lowest-is r (st .args .s) (st .args .q) (st .args .h) (passed (all l)) ∙ sym (l .lowest-from .ensures))),
+    let r = st .args .t1 in
+    let h = unitsOf (st .args .h) in (
+      rw (is-units (all l)) at (c .ask .ensures .0)
+          ∙ sym (request-asks (view r) (st .args .s) (st .args .q) h (passed (all l)) ∙ ap (askAnswer (view r) (st .args .s) (st .args .q) h) (lowest-is r (st .args .s) (st .args .q) h (passed (all l)) ∙ sym (l .lowest-from .ensures))),
       c .ask .ensures .1,
     )
 
@@ -144,8 +161,8 @@ pub request-spec : {M : Type 1} → statement M
 request-spec =
     tie.close
     (tie.spec (λ c. search needs) (λ c. search needs) returns (λ c. search needs) (λ c. search needs) returns-2 (λ c. search needs) (λ c. search needs) returns-3
-    (λ c. search needs) (λ c. search needs) (λ c. search needs) returns-4
+    (λ c κs. search needs) (λ c κs. search needs) (λ c κs. search needs) returns-4
     (λ c. omega (arith, below (others c))) (λ c. omega (arith, below (others c))) (λ c. search needs) (λ c. search needs) returns-5
     (λ c. omega (arith, few-quorums c)) (λ c. omega (arith, few-quorums c)) (λ c. search needs)
-    (λ c. omega (arith, few-quorums (all c))) (λ c. omega (arith, few-units (all c))) (λ c. omega (arith, station c, few (args (all c) .args .t1) (range (others (before (all c))))))
+    (λ c. omega (arith, few-quorums (all c))) (λ c. omega (arith, station c, few (args (all c) .args .t1) (range (others (before (all c))))))
     (λ c κs. (few (args (all c) .args .t1) (range (others (before (all c)))), others (before (all c)) .if2 .left, station c)) returns-6)

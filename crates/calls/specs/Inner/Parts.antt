@@ -8,6 +8,8 @@ use Rattle.lists.specs.At.{at2}
 use Rattle.lists.specs.Broken.{_when_, firstBroken}
 use Rattle.quorum.specs.Family.{quorum}
 use Rattle.quorum.specs.Limits.{mostStations}
+use Rattle.units.specs.Units.{noUnits}
+use Rattle.units.specs.declared.Units.{Units}
 use Rattle.plain.specs.Answer.{Answer, answered}
 use Rattle.plain.specs.Asking.{askPasses, asking}
 use Rattle.plain.specs.Down.{Taken, takenAt}
@@ -31,8 +33,8 @@ pub record Sends (n j grants : ℕ) (line : List Entry) (lanes : ℕ → ℕ →
   pub room : (t : ℕ) → t < n → length (lanes t j) ≤ downPlaces
 
 -- what asking the member m answers, where only the room in its lane is left to be tested
-abbrev pub askAnswer : State → ℕ → ℕ → ℕ → ℕ → Answer
-askAnswer st s q h m = answered st (firstBroken (noPlace when askPasses st s h m ∷ [])) 0 0 (asking st s q h m)
+abbrev pub askAnswer : State → ℕ → ℕ → Units → ℕ → Answer
+askAnswer st s q h m = answered st (firstBroken (noPlace when askPasses st s h m ∷ [])) noUnits noUnits (asking st s q h m)
 
 -- m is the oldest message in the lane of station s and arbiter j, and `rest` are the lanes without it
 pub record Took (n s j : ℕ) (lanes : ℕ → ℕ → List Message) (m : Message) (rest : ℕ → ℕ → List Message) : Type 0 where
@@ -56,4 +58,4 @@ pub record Receives (r : Record) (s j : ℕ) (rest : ℕ → ℕ → List Messag
 
 -- a station that collects works with a quorum of the table, which names no station from n on
 abbrev pub Wishes : ℕ → List ℕ → Phase → Type 0
-Wishes n table p = (q h m : ℕ) → p ≡ Collecting q h m → (q < length table) × (quorum table q < 2 ^ n)
+Wishes n table p = (q : ℕ) (h : Units) (m : ℕ) → p ≡ Collecting q h m → (q < length table) × (quorum table q < 2 ^ n)

@@ -6,6 +6,7 @@ use borrow.Author.Needs.{needs}
 use Rattle.quorum.specs.Answer.{Answer, said, answer}
 use Rattle.quorum.specs.Refusal.{refusal}
 use Rattle.quorum.proofs.Promises.{answer-refusal}
+use Rattle.units.specs.Units.{askedWith, stockOf}
 use Rattle.machine.proofs.OpeningRecord.{opening-both}
 use Rattle.machine.proofs.open.Statement.{statement}
 use Rattle.machine.proofs.open.Tie as tie
@@ -17,8 +18,9 @@ returns c =
     let st = i .before .before .before .before in
     let table = st .args .quorums .now in
     let room = length (st .args .scratch .now) in
-    let refused = ap (λ (a : Answer). a .refusal) (i .inspect .ensures .0) ∙ answer-refusal (st .args .n) table (refusal (st .args .n) (st .args .k) table room) in
-    (opening-both (st .args .n) (st .args .k) table room _ refused (i .inspect .ensures .1 .0), i .inspect .ensures .1 .1)
+    let stock = stockOf (st .args .k) in
+    let refused = ap (λ (a : Answer). a .refusal) (i .inspect .ensures .0) ∙ answer-refusal (st .args .n) table (refusal (st .args .n) (askedWith stock) table room) in
+    (opening-both (st .args .n) stock table room _ refused (i .inspect .ensures .1 .0), i .inspect .ensures .1 .1)
 
 pub open-spec : {M : Type 1} → statement M
 open-spec =

@@ -37,6 +37,7 @@ use types.Part.{look-in, sub, whole}
 use types.Run.{look, look-raw, init, store-raw, forget, stop, hop, fld, from, load, and-then, no-more, of-opd, assigns, land, returns, enter, alloc1, alloc0, params1, pass1, pass0, free1, free0}
 use types.SemTy.{Body}
 use Rattle.quorum.specs.Limits.{mostStations}
+use Rattle.units.specs.Units.{stockOf}
 use Rattle.records.specs.View.{arbiterOf}
 use Rattle.records.specs.declared.Arbiter.{Arbiter}
 use Rattle.arbiters.specs.Lent.{lending, lentOf}
@@ -87,7 +88,7 @@ parts r v is = LL.owed S.the-type S′.the-laws r (v ∷ []) is
 -- what `settled` promises of the arbiter h, the message i and its answer r
 abbrev Promised : Arbiter → Arrival → Settled → Type 0
 Promised h i r =
-    (lentOf (r .reply) (r .arbiter) ≡ lending (i .stock) (i .station) (upwardOf (i .request) (i .units)) (arbiterOf mostStations h)) × (0 < r .reply .refusal → r .arbiter ≡ h)
+    (lentOf (r .reply) (r .arbiter) ≡ lending (stockOf (i .stock)) (i .station) (upwardOf (i .request) (i .units)) (arbiterOf mostStations h)) × (0 < r .reply .refusal → r .arbiter ≡ h)
 
 module _ {M : Type 1} (𝓤 : URA M) (H : Heap 𝓤) (A : Atoms 𝓤) (at-mem : Memory → SProp 𝓤) (run : Routine → Fun 𝓤) where
   abbrev Settle : Contract 𝓤

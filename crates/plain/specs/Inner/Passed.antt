@@ -4,18 +4,19 @@ use mathlib.Core.List.{List, _∷_}
 use mathlib.Core.Path.{_≡_}
 use Prim.Native.Nat.{ℕ, _<_}
 use lib.ListN.{length}
-use Rattle.quorum.specs.Limits.{upTo}
+use Rattle.units.specs.Units.{requestIn}
+use Rattle.units.specs.declared.Units.{Units}
 use Rattle.plain.specs.InRange.{inRange}
 use Rattle.plain.specs.State.{State}
 use Rattle.plain.specs.declared.Message.{Message}
 use Rattle.plain.specs.declared.Phase.the-variants.{Idle, Holding}
 
 -- Request: 19 and 8 to 11
-pub record Requests (st : State) (s q h : ℕ) : Type 0 where
+pub record Requests (st : State) (s q : ℕ) (h : Units) : Type 0 where
   pub range : inRange st ≡ true
   pub station : s < st .n
   pub quorum : q < length (st .table)
-  pub units : upTo (st .stock) h ≡ true
+  pub units : requestIn (st .stock) h ≡ true
   pub idle : st .phase s ≡ Idle
 
 -- Up or Down by this lane: 19, 8 and 13; m is the lane's oldest message
@@ -26,7 +27,7 @@ pub record Delivers (st : State) (s j : ℕ) (lane : List Message) (m : Message)
   pub taken : lane ≡ m ∷ rest
 
 -- Release: 19, 8 and 12; the station holds these units by this quorum
-pub record Releases (st : State) (s q h : ℕ) : Type 0 where
+pub record Releases (st : State) (s q : ℕ) (h : Units) : Type 0 where
   pub range : inRange st ≡ true
   pub station : s < st .n
   pub holding : st .phase s ≡ Holding q h

@@ -9,26 +9,27 @@ use borrow.Author.Tests.{eqb-true, not-true, not-false}
 use Rattle.lists.proofs.Cuts.{length-cut}
 use Rattle.quorum.specs.Limits.{mostStations, brokenLimit}
 use Rattle.quorum.proofs.Promises.{limits-kept}
+use Rattle.units.specs.Units.{askedWith}
 use Rattle.plain.specs.InRange.{inRange}
 use Rattle.records.specs.View.{view, tableOf}
 use Rattle.records.specs.declared.Record.{Record}
 use Rattle.records.proofs.in_range.Statement.{statement}
 use Rattle.records.proofs.in_range.Tie as tie
 
-few : (r : Record) → eqb (brokenLimit (r .n) (r .stock) (tableOf r)) 0 ≡ true → r .n ≤ mostStations
-few r e = limits-kept (r .n) (r .stock) (tableOf r) (eqb-true (brokenLimit (r .n) (r .stock) (tableOf r)) 0 e) .stations .1
+few : (r : Record) → eqb (brokenLimit (r .n) (askedWith (r .stock)) (tableOf r)) 0 ≡ true → r .n ≤ mostStations
+few r e = limits-kept (r .n) (askedWith (r .stock)) (tableOf r) (eqb-true (brokenLimit (r .n) (askedWith (r .stock)) (tableOf r)) 0 e) .stations .1
 
 -- the record that is tested
 abbrev given : tie.Else1 → Record
-given c = c .before .before .before .before .before .before .args .r
+given c = c .before .before .before .before .before .before .before .args .r
 
 -- its limits are kept
-kept : (c : tie.Else1) → eqb (brokenLimit (given c .n) (given c .stock) (tableOf (given c))) 0 ≡ true
-kept c = sym (c .before .limits-kept .ensures) ∙ not-false _ (c .if1 .left)
+kept : (c : tie.Else1) → eqb (brokenLimit (given c .n) (askedWith (given c .stock)) (tableOf (given c))) 0 ≡ true
+kept c = rw (sym (c .before .before .asked-with .ensures)) (sym (c .before .limits-kept .ensures) ∙ not-false _ (c .if1 .left))
 
 returns : tie.Need-returns
 unfolding inRange view
-returns c = rw (sym (c .before .limits-kept .ensures) ∙ not-true _ (c .if1 .taken))
+returns c = rw (sym (c .before .before .asked-with .ensures), sym (c .before .limits-kept .ensures) ∙ not-true _ (c .if1 .taken))
 
 returns-2 : tie.Need-returns-2
 unfolding inRange view
@@ -61,6 +62,6 @@ pub in-range-spec : {M : Type 1} → statement M
 in-range-spec =
     tie.close
     (tie.spec
-    (λ c. search needs) (λ c. search needs) (λ c. search needs) (λ c. search needs) returns
+    (λ c. search needs) (λ c. search needs) (λ c κs. search needs) (λ c κs. search needs) returns
     (λ c κs. few (given (c .before)) (kept (c .before)))
     returns-2 arbiters-in-requires returns-3 both-in-requires returns-4)

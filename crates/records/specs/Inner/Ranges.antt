@@ -3,24 +3,25 @@ use mathlib.Core.Bool.{Bool, cond}
 use mathlib.Core.List.{List}
 use Prim.Native.Nat.{ℕ}
 use Rattle.lists.specs.Search.{everyBelow}
+use Rattle.units.specs.declared.Units.{Units}
 use Rattle.plain.specs.InRange.{goesUp, goesDown}
 use Rattle.plain.specs.Lanes.{upPlaces, downPlaces, keeps}
 use Rattle.plain.specs.declared.Message.{Message}
 
 -- whether a message may stand in a lane
-abbrev pub goes : Bool → ℕ → Message → Bool
-goes upward k = cond upward (goesUp k) goesDown
+abbrev pub goes : Bool → Units → Message → Bool
+goes upward stock = cond upward (goesUp stock) goesDown
 
 -- a lane's limit
 abbrev pub lanePlaces : Bool → ℕ
 lanePlaces upward = cond upward upPlaces downPlaces
 
 -- whether a lane is in range; the lanes of one station; of all n stations
-abbrev pub laneIn : Bool → ℕ → List Message → Bool
-laneIn upward k lane = keeps (lanePlaces upward) (goes upward k) lane
+abbrev pub laneIn : Bool → Units → List Message → Bool
+laneIn upward stock lane = keeps (lanePlaces upward) (goes upward stock) lane
 
-abbrev pub rowIn : Bool → ℕ → ℕ → (ℕ → List Message) → Bool
-rowIn upward n k row = everyBelow (λ j. laneIn upward k (row j)) n
+abbrev pub rowIn : Bool → ℕ → Units → (ℕ → List Message) → Bool
+rowIn upward n stock row = everyBelow (λ j. laneIn upward stock (row j)) n
 
-abbrev pub lanesIn : Bool → ℕ → ℕ → (ℕ → ℕ → List Message) → Bool
-lanesIn upward n k lanes = everyBelow (λ s. rowIn upward n k (lanes s)) n
+abbrev pub lanesIn : Bool → ℕ → Units → (ℕ → ℕ → List Message) → Bool
+lanesIn upward n stock lanes = everyBelow (λ s. rowIn upward n stock (lanes s)) n

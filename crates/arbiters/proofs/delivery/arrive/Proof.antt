@@ -27,11 +27,12 @@ returns-2 c =
 
 returns-3 : tie.Need-returns-3
 returns-3 c =
-    let st = c .before .before in
+    let t = c .before in
+    let st = t .before .before in
     let a = st .args .a in
     let long = granted-of a _ (st .good .0) in (
-      λ n. rw (c .enum-told .given .1) (sym (release-room n (st .args .s) a (st .pre .1))),
-      λ z n p. rw (c .enum-told .given .1) (release-clears n (st .args .s) a p (omega arith)),
+      λ n. rw (t .enum-told .given .1) (sym (release-room n (st .args .s) a (st .pre .1))),
+      λ z n p. rw (t .enum-told .given .1, c .no-units .ensures) (release-clears n (st .args .s) a p (omega arith)),
     )
 
 returns-4 : tie.Need-returns-4
@@ -45,5 +46,5 @@ pub arrive-spec : {M : Type 1} → statement M
 arrive-spec =
     tie.close
     (tie.spec
-    (λ c. search needs) (λ c. search needs) returns (λ c. search needs) (λ c. search needs) (λ c. search needs) (λ c. search needs) (λ c. search needs) (λ c. search needs)
-    (λ c. search needs) returns-2 returns-3 returns-4)
+    (λ c. search needs) (λ c. search needs) returns (λ c. search needs) (λ c. search needs) (λ c. search needs) (λ c. search needs) (λ c. search needs) (λ c κs. search needs)
+    (λ c. search needs) (λ c. search needs) returns-2 returns-3 returns-4)

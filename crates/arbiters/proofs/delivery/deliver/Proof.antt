@@ -75,10 +75,10 @@ returns-4 c =
     let v = c .before in
     let e = v .before .before .before in
     let n = start e .args .n in
-    let k = start e .args .k in (
+    let stock = start e .args .stock in (
       ap₂ (λ (a : PlainArbiter) (g : List Entry). record { refusal = 0; arbiter = a; grants = g })
-          (v .serve .ensures .0 ∙ ap (λ (x : PlainArbiter). served n k x .arbiter) (same e))
-          (v .serve .ensures .1 .0 ∙ ap (λ (x : PlainArbiter). served n k x .grants) (same e))
+          (v .serve .ensures .0 ∙ ap (λ (x : PlainArbiter). served n stock x .arbiter) (same e))
+          (v .serve .ensures .1 .0 ∙ ap (λ (x : PlainArbiter). served n stock x .grants) (same e))
           ∙ sym (telling-done _ _ _ _ _ (fit (others e)) (station e) (room e)),
       λ z. absurd (omega arith),
     )

@@ -17,23 +17,23 @@ use Rattle.arbiters.proofs.lending.deliver_lent.Statement.{statement}
 use Rattle.arbiters.proofs.lending.deliver_lent.Tie as tie
 
 fit : (c : tie.Start) → servable mostStations (arbiterOf mostStations (c .args .a)) ≡ true
-fit c = in-range-servable mostStations (c .args .k) (arbiterOf mostStations (c .args .a)) (omega arith) (c .pre .0)
+fit c = in-range-servable mostStations (c .args .stock) (arbiterOf mostStations (c .args .a)) (omega arith) (c .pre .0)
 
 returns : tie.Need-returns
 returns c =
     let d = c .before .before .before in
     let st = d .before in
-    let full = told-full mostStations (st .args .k) (st .args .s) (st .args .m) (arbiterOf mostStations (st .args .a)) (fit st) (st .pre .1) (d .deliver .result) (d .deliver .ensures .0) (c .before .if1 .taken) in
+    let full = told-full mostStations (st .args .stock) (st .args .s) (st .args .m) (arbiterOf mostStations (st .args .a)) (fit st) (st .pre .1) (d .deliver .result) (d .deliver .ensures .0) (c .before .if1 .taken) in
     (c .refuse-lent .ensures .0 ∙ sym (delivering-full _ _ _ _ full), λ z. c .refuse-lent .ensures .1)
 
 told : (c : tie.Else1) →
     let d = c .before .before in
     let st = d .before in
-    Told mostStations (st .args .k) (arrived (st .args .m) (st .args .s) (arbiterOf mostStations (st .args .a))) (d .deliver .result)
+    Told mostStations (st .args .stock) (arrived (st .args .m) (st .args .s) (arbiterOf mostStations (st .args .a))) (d .deliver .result)
 told c =
     let d = c .before .before in
     let st = d .before in
-    told-done mostStations (st .args .k) (st .args .s) (st .args .m) (arbiterOf mostStations (st .args .a)) (fit st) (st .pre .1) (d .deliver .result) (d .deliver .ensures .0) (c .if1 .left)
+    told-done mostStations (st .args .stock) (st .args .s) (st .args .m) (arbiterOf mostStations (st .args .a)) (fit st) (st .pre .1) (d .deliver .result) (d .deliver .ensures .0) (c .if1 .left)
 
 granted-set-requires : tie.Need-granted-set-requires
 granted-set-requires c κs = told (c .before .before) .short

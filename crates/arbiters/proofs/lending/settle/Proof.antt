@@ -1,13 +1,17 @@
--- `arbiters::lending::settle` meets its contract. Refusals in their order.
+-- `arbiters::lending::settle` meets its contract. Refusals in their order; a stock that passes 2 is stored as it was given, and so are units that pass 10.
 -- Assumes nothing.
-use mathlib.Core.Bool.{false, not}
-use mathlib.Core.Path.{_≡_, refl, sym, ap, _∙_}
-use native.Mathlib.Omega.{arith}
+use mathlib.Core.Bool.{true, false, not}
+use mathlib.Core.Path.{_≡_, refl, sym, ap, ap₂, _∙_}
+use Prim.Native.Nat.{ℕ, _≤_}
 use borrow.Author.Needs.{needs}
 use borrow.Author.Tests.{le-leb, lt-leb, not-false}
 use Rattle.quorum.specs.Limits.{mostStations, mostUnits, upTo}
 use Rattle.quorum.proofs.Promises.{up-to}
+use Rattle.units.specs.Units.{requestIn, askedWith, unitsOf, stockOf}
+use Rattle.units.specs.declared.Units.{Units}
+use Rattle.units.proofs.Numbers.{asked-stock, stored, request-stored, requested-stored}
 use Rattle.plain.specs.InRange.{arbiterIn}
+use Rattle.plain.specs.declared.Message.the-variants.{Request}
 use Rattle.records.specs.View.{arbiterOf}
 use Rattle.arbiters.specs.Inner.Ready.{delivering}
 use Rattle.arbiters.specs.Lent.{badUnits, sentUp}
@@ -16,69 +20,99 @@ use Rattle.arbiters.proofs.LendingArbiter.{lending-refused, lending-del
 use Rattle.arbiters.proofs.lending.settle.Statement.{statement}
 use Rattle.arbiters.proofs.lending.settle.Tie as tie
 
--- what has been tested before 8
-stock : (c : tie.Else1) → not (upTo mostUnits (c .before .before .args .i .stock)) ≡ false
-stock c = ap not (sym (c .before .up-to .ensures)) ∙ c .if1 .left
+-- 2 is tested of the number that stands for the stock
+tested : (k : ℕ) → not (upTo mostUnits (askedWith (stockOf k))) ≡ not (upTo mostUnits k)
+tested k = ap (λ (x : ℕ). not (upTo mostUnits x)) (asked-stock k)
 
-range : (c : tie.Else2) → not (arbiterIn mostStations (c .before .before .before .before .args .i .stock) (arbiterOf mostStations (c .before .before .before .before .args .a))) ≡ false
-range c = ap not (sym (c .before .arbiter-in-range .ensures)) ∙ c .if2 .left
+kept : (c : tie.Else1) → not (upTo mostUnits (c .before .before .args .i .stock)) ≡ false
+kept c = ap not (sym (c .before .up-to .ensures)) ∙ c .if1 .left
+
+small : (c : tie.Else1) → c .before .before .args .i .stock ≤ mostUnits
+small c = up-to mostUnits (c .before .before .args .i .stock) (kept c) .1
+
+-- what has been tested before 8
+stock : (c : tie.Else1) → not (upTo mostUnits (askedWith (stockOf (c .before .before .args .i .stock)))) ≡ false
+stock c = tested (c .before .before .args .i .stock) ∙ kept c
+
+module _ (c : tie.After-stock-of) where
+  abbrev given : tie.Start
+  given = c .before .before .before
+
+  is-stock : c .stock-of .result ≡ stockOf (given .args .i .stock)
+  is-stock = c .stock-of .ensures ∙ stored stockOf (given .args .i .stock) (small (c .before))
+
+in-range : (c : tie.Else2) → arbiterIn mostStations (c .before .before .stock-of .result) (arbiterOf mostStations (given (c .before .before) .args .a)) ≡ true
+in-range c = sym (c .before .arbiter-in-range .ensures) ∙ not-false _ (c .if2 .left)
+
+range : (c : tie.Else2) → not (arbiterIn mostStations (stockOf (given (c .before .before) .args .i .stock)) (arbiterOf mostStations (given (c .before .before) .args .a))) ≡ false
+range c = rw (sym (is-stock (c .before .before)), in-range c)
 
 returns : tie.Need-returns
 returns c =
     let u = c .before .before in
-    (c .refuse-lent .ensures .0 ∙ sym (lending-refused _ _ _ _ 0 (tt, ap not (sym (u .up-to .ensures)) ∙ c .before .if1 .taken) refl), λ z. c .refuse-lent .ensures .1)
+    (c .refuse-lent .ensures .0 ∙ sym (lending-refused _ _ _ _ 0 (tt, tested _ ∙ ap not (sym (u .up-to .ensures)) ∙ c .before .if1 .taken) refl), λ z. c .refuse-lent .ensures .1)
 
 returns-2 : tie.Need-returns-2
 returns-2 c =
     let r = c .before .before in
-    (c .refuse-lent2 .ensures .0 ∙ sym (lending-refused _ _ _ _ 1 ((stock (r .before), tt), ap not (sym (r .arbiter-in-range .ensures)) ∙ c .before .if2 .taken) refl), λ z. c .refuse-lent2 .ensures .1)
+    let s = r .before in (
+      c .refuse-lent2 .ensures .0
+          ∙ sym (lending-refused _ _ _ _ 1 ((stock (s .before), tt), rw (sym (is-stock s)) (ap not (sym (r .arbiter-in-range .ensures)) ∙ c .before .if2 .taken)) refl),
+      λ z. c .refuse-lent2 .ensures .1,
+    )
 
 returns-3 : tie.Need-returns-3
 returns-3 c =
     let e = c .before .before in
-    (c .refuse-lent3 .ensures .0 ∙ sym (lending-refused _ _ _ _ 2 ((stock (e .before .before), (range e, tt)), le-leb _ _ (c .before .if3 .taken)) refl), λ z. c .refuse-lent3 .ensures .1)
+    (c .refuse-lent3 .ensures .0 ∙ sym (lending-refused _ _ _ _ 2 ((stock (e .before .before .before), (range e, tt)), le-leb _ _ (c .before .if3 .taken)) refl), λ z. c .refuse-lent3 .ensures .1)
 
 -- of a REQUEST: its units are tested, or not in 1..k
-module _ (c : tie.After-up-to2) where
+module _ (c : tie.After-request-in) where
   abbrev others : tie.Else2
-  others = c .before .before .before .before .before
+  others = c .before .before .before .before .before .before
 
-  abbrev start : tie.Start
-  start = others .before .before .before .before
+  abbrev storing : tie.After-stock-of
+  storing = others .before .before
 
-  units : badUnits (start .args .i .stock) (start .args .i .message) ≡ not (c .up-to2 .result)
-  units = ap (badUnits (start .args .i .stock)) (c .before .before .m .given .1) ∙ ap not (sym (c .up-to2 .ensures))
+  abbrev k : ℕ
+  k = given storing .args .i .stock
+
+  abbrev h : ℕ
+  h = c .before .before .before .m .given .0 .0
+
+  units : badUnits (stockOf k) (given storing .args .i .message) ≡ not (c .request-in .result)
+  units =
+      ap (badUnits (stockOf k)) (c .before .before .before .m .given .1)
+      ∙ ap not (sym (request-stored (stockOf k) h (rw (asked-stock k) (small (storing .before)))) ∙ sym (ap₂ requestIn (is-stock storing) (c .before .units-of .ensures)) ∙ sym (c .request-in .ensures))
+
+  is-units : c .request-in .result ≡ true → c .before .units-of .result ≡ unitsOf h
+  is-units t = c .before .units-of .ensures ∙ requested-stored (stockOf k) h (sym (ap₂ requestIn (is-stock storing) (c .before .units-of .ensures)) ∙ sym (c .request-in .ensures) ∙ t)
 
 returns-4 : tie.Need-returns-4
 returns-4 c =
     let u = c .before .before in
-    let e = others u in
-    (c .refuse-lent4 .ensures .0 ∙ sym (lending-refused _ _ _ _ 3 ((stock (e .before .before), (range e, (lt-leb _ _ (u .before .before .before .before .if3 .left), tt))), units u ∙ c .before .if4 .taken) refl), λ z. c .refuse-lent4 .ensures .1)
-
-cast-t12 : tie.Need-cast-t12
-cast-t12 c =
-    let u = c .before in
-    let k = start u .args .i .stock in
-    let h = up-to k (u .before .before .m .given .0 .0) (ap not (sym (u .up-to2 .ensures)) ∙ c .if4 .left) in
-    let most = up-to mostUnits k (stock (others u .before .before)) in
-    omega (arith, h .1, most .1)
+    let e = others u in (
+      c .refuse-lent4 .ensures .0
+          ∙ sym (lending-refused _ _ _ _ 3 ((stock (storing u .before), (range e, (lt-leb _ _ (u .before .before .before .before .before .if3 .left), tt))), units u ∙ c .before .if4 .taken) refl),
+      λ z. c .refuse-lent4 .ensures .1,
+    )
 
 deliver-lent-requires : tie.Need-deliver-lent-requires
-deliver-lent-requires c κs =
-    let u = c .before in
-    (not-false _ (range (others u)), u .before .before .before .before .if3 .left)
+deliver-lent-requires c κs = let u = c .before in (in-range (others u), u .before .before .before .before .before .if3 .left)
 
 deliver-lent-requires-2 : tie.Need-deliver-lent-requires-2
-deliver-lent-requires-2 c κs = (not-false _ (range (c .before .before .before)), c .before .before .if3 .left)
+deliver-lent-requires-2 c κs = (in-range (c .before .before .before), c .before .before .if3 .left)
 
 returns-5 : tie.Need-returns-5
 returns-5 c =
     let f = c .before in
     let u = f .before in
     let e = others u in
-    let st = start u in
-    let passed = lending-delivers (st .args .i .stock) (st .args .i .station) (st .args .i .message) (arbiterOf mostStations (st .args .a)) (stock (e .before .before), (range e, (lt-leb _ _ (u .before .before .before .before .if3 .left), (units u ∙ f .if4 .left, tt)))) in (
-      c .deliver-lent .ensures .0 ∙ sym (passed ∙ ap (λ (m : Upward). delivering (st .args .i .stock) (st .args .i .station) (sentUp m) (arbiterOf mostStations (st .args .a))) (u .before .before .m .given .1)),
+    let st = given (storing u) in
+    let passed = lending-delivers (stockOf (k u)) (st .args .i .station) (st .args .i .message) (arbiterOf mostStations (st .args .a)) (stock (storing u .before), (range e, (lt-leb _ _ (u .before .before .before .before .before .if3 .left), (units u ∙ f .if4 .left, tt)))) in (
+      c .deliver-lent .ensures .0
+          ∙ ap₂ (λ (x y : Units). delivering x (st .args .i .station) (Request y) (arbiterOf mostStations (st .args .a))) (is-stock (storing u)) (is-units u (not-false _ (f .if4 .left)))
+          ∙ sym (passed ∙ ap (λ (m : Upward). delivering (stockOf (k u)) (st .args .i .station) (sentUp m) (arbiterOf mostStations (st .args .a))) (u .before .before .before .m .given .1)),
       c .deliver-lent .ensures .1,
     )
 
@@ -86,10 +120,14 @@ returns-6 : tie.Need-returns-6
 returns-6 c =
     let t = c .before in
     let e = t .before .before .before in
-    let st = e .before .before .before .before in
+    let s = e .before .before in
+    let st = given s in
+    let stocked = stockOf (st .args .i .stock) in
     let is = t .enum-told .given .1 in
-    let passed = lending-delivers (st .args .i .stock) (st .args .i .station) (st .args .i .message) (arbiterOf mostStations (st .args .a)) (stock (e .before .before), (range e, (lt-leb _ _ (t .before .before .if3 .left), (ap (badUnits (st .args .i .stock)) is, tt)))) in (
-      c .deliver-lent2 .ensures .0 ∙ sym (passed ∙ ap (λ (m : Upward). delivering (st .args .i .stock) (st .args .i .station) (sentUp m) (arbiterOf mostStations (st .args .a))) is),
+    let passed = lending-delivers stocked (st .args .i .station) (st .args .i .message) (arbiterOf mostStations (st .args .a)) (stock (s .before), (range e, (lt-leb _ _ (t .before .before .if3 .left), (ap (badUnits stocked) is, tt)))) in (
+      c .deliver-lent2 .ensures .0
+          ∙ ap (λ (x : Units). delivering x (st .args .i .station) _ (arbiterOf mostStations (st .args .a))) (is-stock s)
+          ∙ sym (passed ∙ ap (λ (m : Upward). delivering stocked (st .args .i .station) (sentUp m) (arbiterOf mostStations (st .args .a))) is),
       c .deliver-lent2 .ensures .1,
     )
 
@@ -97,5 +135,5 @@ pub settle-spec : {M : Type 1} → statement M
 settle-spec =
     tie.close
     (tie.spec
-    (λ c. search needs) (λ c. search needs) returns (λ c. search needs) (λ c. search needs) returns-2 (λ c. search needs) returns-3 (λ c. search needs) (λ c. search needs)
-    (λ c. search needs) returns-4 cast-t12 deliver-lent-requires (λ c. search needs) deliver-lent-requires-2 returns-5 returns-6)
+    (λ c κs. search needs) (λ c κs. search needs) returns (λ c κs. search needs) (λ c κs. search needs) (λ c κs. search needs) returns-2 (λ c κs. search needs) returns-3 (λ c. search needs)
+    (λ c κs. search needs) (λ c κs. search needs) (λ c κs. search needs) returns-4 deliver-lent-requires (λ c. search needs) deliver-lent-requires-2 returns-5 returns-6)

@@ -30,18 +30,19 @@ returns c =
 
 returns-2 : tie.Need-returns-2
 returns-2 c =
-    let e = c .before .before in
+    let none = c .before .no-units .ensures in
+    let e = c .before .before .before in
     let w = e .before in
     let st = w .before .before .before .before in
     let r = st .args .t1 in
     let stations = stations-of r _ (st .good .0) in
     let rows = rows-of-up r _ (st .good .0) in (
-      c .done .ensures .0
+      rw none at (c .done-with .ensures .0)
           ∙ sym (back-done r (st .args .s) (st .args .quorum) (st .args .units) (st .pre .0) (w .release-row .result .row) (omega (arith, stations, st .pre .1)) (omega (arith, rows, st .pre .1)) (w .release-row .ensures .1 (e .if1 .left)) (sym (w .release-row .ensures .0) ∙ e .if1 .left)),
-      λ z. absurd (omega (arith, c .done .ensures .1)),
+      λ z. absurd (omega (arith, c .done-with .ensures .1)),
     )
 
 pub give-back-spec : {M : Type 1} → statement M
 give-back-spec =
     tie.close
-    (tie.spec (λ c. omega arith) (λ c. omega arith) (λ c. search needs) (λ c. omega arith) (λ c. omega arith) release-row-requires (λ c. search needs) returns (λ c. omega arith) (λ c. omega arith) (λ c. omega arith) (λ c. omega arith) (λ c. search needs) returns-2)
+    (tie.spec (λ c. omega arith) (λ c. omega arith) (λ c. search needs) (λ c. omega arith) (λ c. omega arith) release-row-requires (λ c. search needs) returns (λ c. omega arith) (λ c. omega arith) (λ c. omega arith) (λ c. omega arith) (λ c κs. search needs) (λ c κs. search needs) returns-2)

@@ -20,7 +20,7 @@ use Rattle.calls.proofs.ups.deliver_up.Tie as tie
 -- the arbiter is in range and the station exists, so only the line's limit can be in the way
 module _ (c : tie.After-deliver) where
   abbrev start : tie.Start
-  start = c .before .before
+  start = c .before .before .before
 
   abbrev r : Record
   r = start .args .t1
@@ -93,5 +93,5 @@ returns-3 c =
 pub deliver-up-spec : {M : Type 1} → statement M
 deliver-up-spec =
     tie.close
-    (tie.spec (λ c. search needs) (λ c. search needs) (λ c. search needs) (λ c. search needs) (λ c. search needs) (λ c. search needs) returns
+    (tie.spec (λ c. search needs) (λ c. search needs) (λ c. search needs) (λ c. search needs) (λ c. search needs) returns
     send-requires (λ c. search needs) returns-2 (λ c. search needs) (λ c. search needs) (λ c. search needs) returns-3)

@@ -26,7 +26,7 @@ answer-at-requires c κs =
 
 write-answer-requires : tie.Need-write-answer-requires Inv-loop μ-loop
 write-answer-requires c κs =
-    let l = c .before .before .before in
+    let l = c .before .before .before .before .before in
     let st = l .before .before .before in
     room (st .args .calls .now) (st .args .answers .now) (view (st .args .r)) _ _ _ _ (l .loop .inv) (st .pre .0) (st .pre .1) (omega arith)
 
@@ -34,7 +34,7 @@ loop-again : tie.Need-loop-again Inv-loop μ-loop
 unfolding answerOf
 loop-again c =
     let w = c .before .before .before in
-    let a = w .before .before in
+    let a = w .before .before .before .before in
     let l = a .before .before in
     let st = l .before .before .before in
     going-more (st .args .calls .now) (st .args .answers .now) (view (st .args .r)) _ _ _ _ (l .loop .inv) (omega arith) (answerOf (a .answer-at .result)) (a .answer-at .ensures) (w .write-answer .last .0) (w .write-answer .ensures)

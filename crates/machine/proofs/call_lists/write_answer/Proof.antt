@@ -9,19 +9,20 @@ use Rattle.machine.proofs.call_lists.write_answer.Statement.{statement}
 use Rattle.machine.proofs.call_lists.write_answer.Tie as tie
 
 slice-write-answers-2 : tie.Need-slice-write-answers-2
-slice-write-answers-2 c = omega (arith, length-set (c .args .answers .now) (c .args .at) (c .args .refusal))
+slice-write-answers-2 c = let st = c .before .before .before in omega (arith, length-set (st .args .answers .now) (st .args .at) (st .args .refusal))
 
 slice-write-answers-3 : tie.Need-slice-write-answers-3
 slice-write-answers-3 c =
-    let first = set (c .args .answers .now) (c .args .at) (c .args .refusal) in
-    omega (arith, length-set (c .args .answers .now) (c .args .at) (c .args .refusal), length-set first (c .args .at + 1) (c .args .entered))
+    let st = c .before .before .before in
+    let first = set (st .args .answers .now) (st .args .at) (st .args .refusal) in
+    omega (arith, length-set (st .args .answers .now) (st .args .at) (st .args .refusal), length-set first (st .args .at + 1) (c .before .number-of .result))
 
 returns : tie.Need-returns
-returns c = refl
+returns c = rw (c .number-of2 .ensures, c .before .number-of .ensures) refl
 
 pub write-answer-spec : {M : Type 1} → statement M
 write-answer-spec =
     tie.close
     (tie.spec
-    (λ c. search needs) (λ c. search needs) (λ c. search needs) (λ c. search needs) slice-write-answers-2 (λ c. search needs) (λ c. search needs) slice-write-answers-3
-    (λ c. search needs) returns)
+    (λ c κs. search needs) (λ c κs. search needs) (λ c. search needs) (λ c. search needs) (λ c. search needs) (λ c. search needs) (λ c. search needs) slice-write-answers-2
+    (λ c. search needs) (λ c. search needs) (λ c. search needs) slice-write-answers-3 (λ c. search needs) returns)

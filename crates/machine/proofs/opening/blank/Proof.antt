@@ -7,11 +7,12 @@ use Rattle.machine.proofs.opening.blank.Tie as tie
 
 returns : tie.Need-returns
 returns c =
-    let st = c .before in
-    blank-fresh (st .args .n) (st .args .stock) (st .args .quorums) (st .args .table) 12 _ (c .empty-lanes .result) (c .empty-lanes .ensures (st .args .n))
+    let st = c .before .before in
+    let none = c .before .no-units .ensures in
+    rw none (blank-fresh (st .args .n) (st .args .stock) (st .args .quorums) (st .args .table) 12 _ (c .empty-lanes .result) (c .empty-lanes .ensures (st .args .n)))
 
 pub blank-spec : {M : Type 1} → statement M
 blank-spec =
     tie.close
     (tie.spec
-    (λ c. search needs) returns)
+    (λ c κs. search needs) (λ c κs. search needs) returns)

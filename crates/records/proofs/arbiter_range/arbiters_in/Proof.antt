@@ -15,11 +15,11 @@ pub arbiters-in-spec : {M : Type 1} → statement M
 arbiters-in-spec =
     tie.close
     (tie.spec
-    (λ n k arbiters j₀ j. Tested (λ i. arbiterIn n k (arbiterOf n (getD arbiters i noArbiter))) n j)
-    (λ n k arbiters j₀ j. n - j)
+    (λ n stock arbiters j₀ j. Tested (λ i. arbiterIn n stock (arbiterOf n (getD arbiters i noArbiter))) n j)
+    (λ n stock arbiters j₀ j. n - j)
     (search tested-none)
     (λ c. search needs) (λ c. search needs) (λ c. search needs) (λ c. search needs) (λ c. search needs)
     (λ c. search tested-more)
     (λ c.
     let a = c .before .before .args in
-    rw (arbiters-in (a .n) (a .k) (a .t1)) (tested-left (c .before .loop .inv) (λ w. sym (w .2 .ensures) ∙ w .3 .left) (λ w. w .left) (c .loop-test .came))))
+    rw (arbiters-in (a .n) (a .stock) (a .t1)) (tested-left (c .before .loop .inv) (λ w. sym (w .2 .ensures) ∙ w .3 .left) (λ w. w .left) (c .loop-test .came))))

@@ -12,10 +12,10 @@ returns c = rw (le-ltb _ _ (c .if1 .taken))
 
 returns-2 : tie.Need-returns-2
 unfolding entryIn
-returns-2 c = rw (lt-ltb _ _ (c .before .before .if1 .left)) (c .up-to .ensures)
+returns-2 c = rw (lt-ltb _ _ (c .before .before .if1 .left)) (c .request-in .ensures)
 
 pub entry-in-spec : {M : Type 1} → statement M
 entry-in-spec =
     tie.close
     (tie.spec
-    (λ c. search needs) returns (λ c. search needs) (λ c. search needs) returns-2)
+    (λ c. search needs) returns (λ c κs. search needs) returns-2)

@@ -15,8 +15,8 @@ pub line-in-spec : {M : Type 1} → statement M
 line-in-spec =
     tie.close
     (tie.spec
-    (λ len n k line i₀ i. Tested (λ p. entryIn n k (getD line p noEntry)) len i)
-    (λ len n k line i₀ i. len - i)
+    (λ len n stock line i₀ i. Tested (λ p. entryIn n stock (getD line p noEntry)) len i)
+    (λ len n stock line i₀ i. len - i)
     (search tested-none)
     (λ c. search needs) (λ c. search needs) (λ c. search needs) (λ c. search needs) (λ c. search needs)
     (λ c. search tested-more)

@@ -16,13 +16,13 @@ pub lane-in-spec : {M : Type 1} → statement M
 lane-in-spec =
     tie.close
     (tie.spec
-    (λ k upward len slots i₀ i. Tested (λ p. goes upward k (getD slots p noSlot .message)) len i)
-    (λ k upward len slots i₀ i. len - i)
+    (λ stock upward len slots i₀ i. Tested (λ p. goes upward stock (getD slots p noSlot .message)) len i)
+    (λ stock upward len slots i₀ i. len - i)
     (λ c. search needs) (λ c. search needs)
     (λ c.
     let a = c .before .before .before .args in
     let e = c .before .places .ensures .0 in
-    sym (lane-long (a .upward) (a .k) (a .l) (omega arith)))
+    sym (lane-long (a .upward) (a .stock) (a .l) (omega arith)))
     (search tested-none)
     (λ c. search needs) (λ c. search needs) (λ c. search needs) (λ c. search needs) (λ c. search needs)
     (λ c. search tested-more)
@@ -30,4 +30,4 @@ lane-in-spec =
     let f = c .before .before .before in
     let e = f .before .places .ensures .0 in
     let a = f .before .before .before .args in
-    rw (lane-kept (a .upward) (a .k) (a .l) (omega arith)) (tested-left (c .before .loop .inv) (λ w. sym (w .2 .ensures) ∙ w .3 .left) (λ w. w .left) (c .loop-test .came))))
+    rw (lane-kept (a .upward) (a .stock) (a .l) (omega arith)) (tested-left (c .before .loop .inv) (λ w. sym (w .2 .ensures) ∙ w .3 .left) (λ w. w .left) (c .loop-test .came))))

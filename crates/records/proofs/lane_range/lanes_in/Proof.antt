@@ -15,11 +15,11 @@ pub lanes-in-spec : {M : Type 1} → statement M
 lanes-in-spec =
     tie.close
     (tie.spec
-    (λ n k upward rows s₀ s. Tested (λ i. rowIn upward n k (rowOf n (getD rows i noRow))) n s)
-    (λ n k upward rows s₀ s. n - s)
+    (λ n stock upward rows s₀ s. Tested (λ i. rowIn upward n stock (rowOf n (getD rows i noRow))) n s)
+    (λ n stock upward rows s₀ s. n - s)
     (search tested-none)
     (λ c. search needs) (λ c. search needs) (λ c. search needs) (λ c. search needs) (λ c. search needs)
     (λ c. search tested-more)
     (λ c.
     let a = c .before .before .before .args in
-    rw (lanes-in (a .upward) (a .n) (a .k) (a .t)) (tested-left (c .before .loop .inv) (λ w. sym (w .2 .ensures) ∙ w .3 .left) (λ w. w .left) (c .loop-test .came))))
+    rw (lanes-in (a .upward) (a .n) (a .stock) (a .t)) (tested-left (c .before .loop .inv) (λ w. sym (w .2 .ensures) ∙ w .3 .left) (λ w. w .left) (c .loop-test .came))))

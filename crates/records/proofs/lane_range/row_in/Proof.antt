@@ -15,11 +15,11 @@ pub row-in-spec : {M : Type 1} → statement M
 row-in-spec =
     tie.close
     (tie.spec
-    (λ n k upward lanes j₀ j. Tested (λ i. laneIn upward k (laneOf (getD lanes i noLane))) n j)
-    (λ n k upward lanes j₀ j. n - j)
+    (λ n stock upward lanes j₀ j. Tested (λ i. laneIn upward stock (laneOf (getD lanes i noLane))) n j)
+    (λ n stock upward lanes j₀ j. n - j)
     (search tested-none)
     (λ c. search needs) (λ c. search needs) (λ c. search needs) (λ c. search needs) (λ c. search needs)
     (λ c. search tested-more)
     (λ c.
     let a = c .before .before .before .args in
-    rw (row-in (a .upward) (a .n) (a .k) (a .w)) (tested-left (c .before .loop .inv) (λ w. sym (w .2 .ensures) ∙ w .3 .left) (λ w. w .left) (c .loop-test .came))))
+    rw (row-in (a .upward) (a .n) (a .stock) (a .w)) (tested-left (c .before .loop .inv) (λ w. sym (w .2 .ensures) ∙ w .3 .left) (λ w. w .left) (c .loop-test .came))))

@@ -11,4 +11,4 @@ wish-in-spec =
     (tie.spec
     (λ c. rw (le-ltb _ _ (c .if1 .taken)))
     (λ c. search needs)
-    (λ c. rw (lt-ltb _ _ (c .before .if1 .left)) (c .up-to .ensures)))
+    (λ c. rw (lt-ltb _ _ (c .before .if1 .left)) (c .request-in .ensures)))

@@ -1,0 +1,4 @@
+pub mod Ranges
+pub mod Amounts
+pub mod Numbers
+pub mod Granting
