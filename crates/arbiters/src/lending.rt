@@ -96,10 +96,10 @@ pub fn settle(a: Arbiter, i: Incoming) -> Settled
 {
     let k = i.stock;
     let s = i.station;
-    if !quorum::limits::up_to(quorum::MOST_UNITS, k) {
+    let stock = units::stock_of(k);
+    if !quorum::limits::up_to(quorum::MOST_UNITS, units::asked_with(stock)) {
         return refuse_lent(a, refusals::BAD_STOCK);
     }
-    let stock = units::stock_of(k);
     if !records::arbiter_in_range(a, STATIONS, stock) {
         return refuse_lent(a, refusals::OUT_OF_RANGE);
     }

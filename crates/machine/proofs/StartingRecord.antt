@@ -1,8 +1,8 @@
 -- For every table that passes 1 to 4 the machine has a value of a fresh record of it: `blank` returns one.
 -- Assumes nothing.
 use mathlib.Core.List.{List, [], _∷_, map}
-use mathlib.Core.Logic.{by-cases, ∥∥₁-prop, ∥∥₁-elim, ∥∥₁-map}
-use mathlib.Core.Path.{_≡_, refl, ap, subst, _∙_}
+use mathlib.Core.Logic.{by-cases, ∥∥₁-map}
+use mathlib.Core.Path.{_≡_, refl, ap, _∙_}
 use Prim.Native.Nat.{ℕ, suc, _<_, _^_}
 use native.Mathlib.Decide.{decLt}
 use native.Mathlib.Nat.{zero-lt-suc}
@@ -10,7 +10,7 @@ use native.Mathlib.Omega.{arith}
 use lib.Dec.{lit<}
 use lib.ListN.{length, getD, List·getD-eq-default}
 use lib.Pow.{pow-lt}
-use mir.Syntax.{w8, w16, w64}
+use mir.Syntax.{w8, w16}
 use mir.Val.{Val, vint}
 use ghost.Model as Closed
 use contract.BorrowModel.{ghost₀}
@@ -23,16 +23,12 @@ use Rattle.lists.specs.Cut.{cut}
 use Rattle.lists.proofs.Cuts.{length-cut, getD-cut, cut-filled}
 use Rattle.quorum.specs.Limits.{brokenLimit, mostQuorums}
 use Rattle.quorum.proofs.Promises.{Limits, limits-kept}
-use Rattle.units.specs.Units.{askedWith, stockOf, numberOf}
+use Rattle.units.specs.Units.{askedWith}
 use Rattle.units.specs.declared.Units.{Units}
-use Rattle.units.proofs.Numbers.{number-small, stored, stock-number}
+use Rattle.units.proofs.Held.{units-held}
 use Rattle.units.proofs.Units.{the-row as the-units}
 use Rattle.units.proofs.Units as units-type
 use Rattle.units.proofs.Units.Laws as units-laws
-use Rattle.units.proofs.stock_of.Kinds as stock-kinds
-use Rattle.units.proofs.stock_of.Met as stock-met
-use Rattle.units.proofs.stock_of.Reads as stock-reads
-use Rattle.units.proofs.stock_of.Symbol as stock-code
 use Rattle.plain.specs.State.{fresh}
 use Rattle.records.specs.View.{view}
 use Rattle.records.specs.declared.Record.{Record}
@@ -67,19 +63,11 @@ module _ (n : ℕ) (stock : Units) (table : List ℕ) (kept : brokenLimit n (ask
   table-fits : (i : ℕ) → i < length filledTable → getD filledTable i 0 < 2 ^ 16
   table-fits i h = rw (getD-cut 0 mostQuorums table i (rw (length-cut 0 mostQuorums table) at h)) (quorum-fits i)
 
-  -- the machine has a value of the stock: `stock_of` returns one
-  stock-held : ∥ ((v : Val) × Is the-units stock (v ∷ [])) ∥₁
-  stock-held =
-      let small = number-small stock (limits .stock .1) in
-      ∥∥₁-map (returns stock-kinds.ps stock-kinds.r stock-reads.Asked stock-reads.Learnt stock-code.routine stock-reads.known (stock-met.met Closed.𝓤 Closed.H Closed.model ghost₀ 𝓡₀) tt
-      (number-had w64, tt) (numberOf stock, tt) (vint w64 (numberOf stock) ∷ [], tt) ((refl, omega (arith, small)), tt) tt
-      (λ u. u ≡ stock) (λ u ws l. l ∙ stored stockOf (numberOf stock) small ∙ stock-number stock) []) (λ t. (t .1, subst (λ (u : Units). Is the-units u (t .1 ∷ [])) (t .5) (t .4)))
-
   pub fresh-held : ∥ ((r : Record) × (w : Val) × Is the-record r (w ∷ []) × (view r ≡ fresh n stock table)) ∥₁
   fresh-held =
-      ∥∥₁-elim stock-held ∥∥₁-prop (λ s.
+      let s = units-held stock (limits .stock .1) in
       ∥∥₁-map (returns kinds.ps kinds.r blank.Asked blank.Learnt code.routine blank.known (met.met Closed.𝓤 Closed.H Closed.model ghost₀ 𝓡₀) tt
       (number-had w8, (units-had, (number-had w8, (array-makes Closed.𝓤 Closed.H (ghost₀ .A) given₀ (UInt w16) (number-had w16) mostQuorums, tt))))
       (n, (stock, (length table, (filledTable, tt)))) (vint w8 n ∷ [], (s .0 ∷ [], (vint w8 (length table) ∷ [], (arrayVal (map (vint w16) filledTable) ∷ [], tt))))
       ((refl, omega (arith, limits .stations)), (s .1, ((refl, omega (arith, limits .quorums)), ((map (vint w16) filledTable, ((refl, length-cut 0 mostQuorums table), each-fits filledTable table-fits)), tt)))) tt
-      (λ r. view r ≡ fresh n stock table) (λ r ws l. l ∙ ap (fresh n stock) (cut-filled 0 table mostQuorums (limits .quorums .1))) []) (λ t. (t .0, t .1, t .4, t .5)))
+      (λ r. view r ≡ fresh n stock table) (λ r ws l. l ∙ ap (fresh n stock) (cut-filled 0 table mostQuorums (limits .quorums .1))) []) (λ t. (t .0, t .1, t .4, t .5))

@@ -55,14 +55,15 @@ pub fn inspect(n: usize, k: usize, quorums: &[u16], scratch: &mut [u8]) -> Inspe
     ensures state { λ r. ⌜ view (r .«record») ≡ opening n (stockOf k) (now (quorums .entry)) (length (now (scratch .entry))) .state ⌝ }
     ensures cleaned { λ _. ⌜ now (scratch .exit) ≡ cleaned (now (scratch .entry)) ⌝ }
 {
-    let checked = quorum::check(n, k, quorums, scratch);
+    let stock = units::stock_of(k);
+    let checked = quorum::check(n, units::asked_with(stock), quorums, scratch);
     if checked.refusal != refusals::NO_REFUSAL {
         return Inspected {
             checked,
             record: opening::blank(0, units::no_units(), 0, [0u16; quorum::MOST_QUORUMS]),
         };
     }
-    let record = opening::fresh(n, k, quorums);
+    let record = opening::fresh(n, stock, quorums);
     Inspected { checked, record }
 }
 

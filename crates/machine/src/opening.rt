@@ -5,9 +5,8 @@ ghost use Prim.Native.Nat.{ℕ, _≤_};
 ghost use lib.ListN.{length};
 ghost use Rattle.lists.specs.Cut.{cut};
 ghost use Rattle.plain.specs.State.{fresh as freshOf};
-ghost use Rattle.quorum.specs.Limits.{mostStations, mostUnits, mostQuorums};
+ghost use Rattle.quorum.specs.Limits.{mostStations, mostQuorums};
 ghost use Rattle.records.specs.View.{lanesOf, view};
-ghost use Rattle.units.specs.Units.{stockOf};
 use plain::Entry;
 use plain::Message;
 use plain::Phase;
@@ -85,10 +84,10 @@ pub(crate) fn blank(n: u8, stock: Units, quorums: u8, table: [u16; quorum::MOST_
 }
 
 // A fresh record of the table.
-pub(crate) fn fresh(n: usize, k: usize, quorums: &[u16]) -> Record
-    requires { ⌜ (n ≤ mostStations) × (k ≤ mostUnits) × (length (now quorums) ≤ mostQuorums) ⌝ }
-    ensures { λ r. ⌜ view r ≡ freshOf n (stockOf k) (now (quorums .entry)) ⌝ }
+pub(crate) fn fresh(n: usize, stock: Units, quorums: &[u16]) -> Record
+    requires { ⌜ (n ≤ mostStations) × (length (now quorums) ≤ mostQuorums) ⌝ }
+    ensures { λ r. ⌜ view r ≡ freshOf n stock (now (quorums .entry)) ⌝ }
 {
     let table = copied(quorums);
-    blank(n as u8, units::stock_of(k), quorums.len() as u8, table)
+    blank(n as u8, stock, quorums.len() as u8, table)
 }

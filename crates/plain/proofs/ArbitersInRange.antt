@@ -12,7 +12,7 @@ use Rattle.lists.specs.Search.{all, everyBelow}
 use Rattle.lists.proofs.Changed.{at-all}
 use Rattle.lists.proofs.Searches.{every-true, every-at}
 use Rattle.lists.proofs.Tests.{known, and-left, and-right, and-both}
-use Rattle.units.specs.Units.{noUnits, requestIn, grantIn, fits}
+use Rattle.units.specs.Units.{requestIn, grantIn, fits}
 use Rattle.units.specs.declared.Units.{Units}
 use Rattle.units.proofs.Ranges.{none-granted, request-granted}
 use Rattle.plain.specs.Arbiter.{arrived, serve, served}
@@ -54,7 +54,7 @@ module _ (n : ℕ) (stock : Units) where
       }
   arrived-in Release s a l u room f =
       record {
-        grants = λ t b. at-all (λ g. grantIn stock g ≡ true) (a .granted) s noUnits (none-granted stock) t (f .grants t b);
+        grants = λ t b. at-all (λ g. grantIn stock g ≡ true) (a .granted) s _ (search (none-granted stock, f .grants s l)) t (f .grants t b);
         line = f .line;
       }
   arrived-in Grant s a l u room f = f

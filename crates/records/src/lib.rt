@@ -98,7 +98,5 @@ pub fn in_range(r: Record) -> bool
     if !arbiter_range::arbiters_in(arbiters, n, stock) {
         return false;
     }
-    let up = r.up;
-    let down = r.down;
-    lane_range::both_in(up, down, n, stock)
+    lane_range::both_in(r.up, r.down, n, stock)
 }

@@ -48,12 +48,12 @@ returns-3 c =
     rw (kept l, sym (f .before .stations-in .ensures (tableOf (given l)) (length-cut 0 _ _)) ∙ not-false _ (f .if2 .left), sym (c .before .arbiters-in .ensures) ∙ not-true _ (c .if3 .taken))
 
 both-in-requires : tie.Need-both-in-requires
-both-in-requires c κs = let l = c .before .before .before .before .before .before .before .before in few (given l) (kept l)
+both-in-requires c κs = let l = c .before .before .before .before .before .before in few (given l) (kept l)
 
 returns-4 : tie.Need-returns-4
 unfolding inRange view
 returns-4 c =
-    let g = c .before .before .before in
+    let g = c .before in
     let f = g .before .before .before in
     let l = f .before .before .before in
     rw (kept l, sym (f .before .stations-in .ensures (tableOf (given l)) (length-cut 0 _ _)) ∙ not-false _ (f .if2 .left), sym (g .before .arbiters-in .ensures) ∙ not-false _ (g .if3 .left)) (c .both-in .ensures)

@@ -2,14 +2,14 @@
 -- Assumes nothing.
 use mathlib.Core.Bool.{true, false, not}
 use mathlib.Core.Path.{_≡_, refl, sym, ap, ap₂, _∙_}
-use Prim.Native.Nat.{ℕ, _≤_}
+use Prim.Native.Nat.{ℕ}
 use borrow.Author.Needs.{needs}
 use borrow.Author.Tests.{le-leb, lt-leb, not-false}
 use Rattle.quorum.specs.Limits.{mostStations, mostUnits, upTo}
 use Rattle.quorum.proofs.Promises.{up-to}
 use Rattle.units.specs.Units.{requestIn, askedWith, unitsOf, stockOf}
 use Rattle.units.specs.declared.Units.{Units}
-use Rattle.units.proofs.Numbers.{asked-stock, stored, request-stored, requested-stored}
+use Rattle.units.proofs.Numbers.{asked-stored, stock-stored, request-stored, requested-stored}
 use Rattle.plain.specs.InRange.{arbiterIn}
 use Rattle.plain.specs.declared.Message.the-variants.{Request}
 use Rattle.records.specs.View.{arbiterOf}
@@ -20,28 +20,29 @@ use Rattle.arbiters.proofs.LendingArbiter.{lending-refused, lending-del
 use Rattle.arbiters.proofs.lending.settle.Statement.{statement}
 use Rattle.arbiters.proofs.lending.settle.Tie as tie
 
--- 2 is tested of the number that stands for the stock
-tested : (k : ℕ) → not (upTo mostUnits (askedWith (stockOf k))) ≡ not (upTo mostUnits k)
-tested k = ap (λ (x : ℕ). not (upTo mostUnits x)) (asked-stock k)
+-- 2 is tested of the stock that the number stands for
+module _ (c : tie.After-up-to) where
+  abbrev begun : tie.Start
+  begun = c .before .before .before
 
-kept : (c : tie.Else1) → not (upTo mostUnits (c .before .before .args .i .stock)) ≡ false
-kept c = ap not (sym (c .before .up-to .ensures)) ∙ c .if1 .left
+  tested : upTo mostUnits (askedWith (stockOf (begun .args .i .stock))) ≡ c .up-to .result
+  tested =
+      sym (c .up-to .ensures ∙ ap (upTo mostUnits) (c .before .asked-with .ensures ∙ ap askedWith (c .before .before .stock-of .ensures)) ∙ asked-stored (begun .args .i .stock))
 
-small : (c : tie.Else1) → c .before .before .args .i .stock ≤ mostUnits
-small c = up-to mostUnits (c .before .before .args .i .stock) (kept c) .1
-
--- what has been tested before 8
-stock : (c : tie.Else1) → not (upTo mostUnits (askedWith (stockOf (c .before .before .args .i .stock)))) ≡ false
-stock c = tested (c .before .before .args .i .stock) ∙ kept c
-
-module _ (c : tie.After-stock-of) where
+-- and kept
+module _ (c : tie.Else1) where
   abbrev given : tie.Start
-  given = c .before .before .before
+  given = begun (c .before)
 
-  is-stock : c .stock-of .result ≡ stockOf (given .args .i .stock)
-  is-stock = c .stock-of .ensures ∙ stored stockOf (given .args .i .stock) (small (c .before))
+  stock : not (upTo mostUnits (askedWith (stockOf (given .args .i .stock)))) ≡ false
+  stock = ap not (tested (c .before)) ∙ c .if1 .left
 
-in-range : (c : tie.Else2) → arbiterIn mostStations (c .before .before .stock-of .result) (arbiterOf mostStations (given (c .before .before) .args .a)) ≡ true
+  is-stock : c .before .before .before .stock-of .result ≡ stockOf (given .args .i .stock)
+  is-stock =
+      c .before .before .before .stock-of .ensures
+      ∙ stock-stored (given .args .i .stock) (asked-stored (given .args .i .stock) ∙ not-false _ stock)
+
+in-range : (c : tie.Else2) → arbiterIn mostStations (c .before .before .before .before .before .stock-of .result) (arbiterOf mostStations (given (c .before .before) .args .a)) ≡ true
 in-range c = sym (c .before .arbiter-in-range .ensures) ∙ not-false _ (c .if2 .left)
 
 range : (c : tie.Else2) → not (arbiterIn mostStations (stockOf (given (c .before .before) .args .i .stock)) (arbiterOf mostStations (given (c .before .before) .args .a))) ≡ false
@@ -49,29 +50,28 @@ range c = rw (sym (is-stock (c .before .before)), in-range c)
 
 returns : tie.Need-returns
 returns c =
-    let u = c .before .before in
-    (c .refuse-lent .ensures .0 ∙ sym (lending-refused _ _ _ _ 0 (tt, tested _ ∙ ap not (sym (u .up-to .ensures)) ∙ c .before .if1 .taken) refl), λ z. c .refuse-lent .ensures .1)
+    (c .refuse-lent .ensures .0 ∙ sym (lending-refused _ _ _ _ 0 (tt, ap not (tested (c .before .before)) ∙ c .before .if1 .taken) refl), λ z. c .refuse-lent .ensures .1)
 
 returns-2 : tie.Need-returns-2
 returns-2 c =
     let r = c .before .before in
     let s = r .before in (
       c .refuse-lent2 .ensures .0
-          ∙ sym (lending-refused _ _ _ _ 1 ((stock (s .before), tt), rw (sym (is-stock s)) (ap not (sym (r .arbiter-in-range .ensures)) ∙ c .before .if2 .taken)) refl),
+          ∙ sym (lending-refused _ _ _ _ 1 ((stock s, tt), rw (sym (is-stock s)) (ap not (sym (r .arbiter-in-range .ensures)) ∙ c .before .if2 .taken)) refl),
       λ z. c .refuse-lent2 .ensures .1,
     )
 
 returns-3 : tie.Need-returns-3
 returns-3 c =
     let e = c .before .before in
-    (c .refuse-lent3 .ensures .0 ∙ sym (lending-refused _ _ _ _ 2 ((stock (e .before .before .before), (range e, tt)), le-leb _ _ (c .before .if3 .taken)) refl), λ z. c .refuse-lent3 .ensures .1)
+    (c .refuse-lent3 .ensures .0 ∙ sym (lending-refused _ _ _ _ 2 ((stock (e .before .before), (range e, tt)), le-leb _ _ (c .before .if3 .taken)) refl), λ z. c .refuse-lent3 .ensures .1)
 
 -- of a REQUEST: its units are tested, or not in 1..k
 module _ (c : tie.After-request-in) where
   abbrev others : tie.Else2
   others = c .before .before .before .before .before .before
 
-  abbrev storing : tie.After-stock-of
+  abbrev storing : tie.Else1
   storing = others .before .before
 
   abbrev k : ℕ
@@ -83,7 +83,7 @@ module _ (c : tie.After-request-in) where
   units : badUnits (stockOf k) (given storing .args .i .message) ≡ not (c .request-in .result)
   units =
       ap (badUnits (stockOf k)) (c .before .before .before .m .given .1)
-      ∙ ap not (sym (request-stored (stockOf k) h (rw (asked-stock k) (small (storing .before)))) ∙ sym (ap₂ requestIn (is-stock storing) (c .before .units-of .ensures)) ∙ sym (c .request-in .ensures))
+      ∙ ap not (sym (request-stored (stockOf k) h (up-to mostUnits (askedWith (stockOf k)) (stock storing) .1)) ∙ sym (ap₂ requestIn (is-stock storing) (c .before .units-of .ensures)) ∙ sym (c .request-in .ensures))
 
   is-units : c .request-in .result ≡ true → c .before .units-of .result ≡ unitsOf h
   is-units t = c .before .units-of .ensures ∙ requested-stored (stockOf k) h (sym (ap₂ requestIn (is-stock storing) (c .before .units-of .ensures)) ∙ sym (c .request-in .ensures) ∙ t)
@@ -93,7 +93,7 @@ returns-4 c =
     let u = c .before .before in
     let e = others u in (
       c .refuse-lent4 .ensures .0
-          ∙ sym (lending-refused _ _ _ _ 3 ((stock (storing u .before), (range e, (lt-leb _ _ (u .before .before .before .before .before .if3 .left), tt))), units u ∙ c .before .if4 .taken) refl),
+          ∙ sym (lending-refused _ _ _ _ 3 ((stock (storing u), (range e, (lt-leb _ _ (u .before .before .before .before .before .if3 .left), tt))), units u ∙ c .before .if4 .taken) refl),
       λ z. c .refuse-lent4 .ensures .1,
     )
 
@@ -109,7 +109,7 @@ returns-5 c =
     let u = f .before in
     let e = others u in
     let st = given (storing u) in
-    let passed = lending-delivers (stockOf (k u)) (st .args .i .station) (st .args .i .message) (arbiterOf mostStations (st .args .a)) (stock (storing u .before), (range e, (lt-leb _ _ (u .before .before .before .before .before .if3 .left), (units u ∙ f .if4 .left, tt)))) in (
+    let passed = lending-delivers (stockOf (k u)) (st .args .i .station) (st .args .i .message) (arbiterOf mostStations (st .args .a)) (stock (storing u), (range e, (lt-leb _ _ (u .before .before .before .before .before .if3 .left), (units u ∙ f .if4 .left, tt)))) in (
       c .deliver-lent .ensures .0
           ∙ ap₂ (λ (x y : Units). delivering x (st .args .i .station) (Request y) (arbiterOf mostStations (st .args .a))) (is-stock (storing u)) (is-units u (not-false _ (f .if4 .left)))
           ∙ sym (passed ∙ ap (λ (m : Upward). delivering (stockOf (k u)) (st .args .i .station) (sentUp m) (arbiterOf mostStations (st .args .a))) (u .before .before .before .m .given .1)),
@@ -124,7 +124,7 @@ returns-6 c =
     let st = given s in
     let stocked = stockOf (st .args .i .stock) in
     let is = t .enum-told .given .1 in
-    let passed = lending-delivers stocked (st .args .i .station) (st .args .i .message) (arbiterOf mostStations (st .args .a)) (stock (s .before), (range e, (lt-leb _ _ (t .before .before .if3 .left), (ap (badUnits stocked) is, tt)))) in (
+    let passed = lending-delivers stocked (st .args .i .station) (st .args .i .message) (arbiterOf mostStations (st .args .a)) (stock s, (range e, (lt-leb _ _ (t .before .before .if3 .left), (ap (badUnits stocked) is, tt)))) in (
       c .deliver-lent2 .ensures .0
           ∙ ap (λ (x : Units). delivering x (st .args .i .station) _ (arbiterOf mostStations (st .args .a))) (is-stock s)
           ∙ sym (passed ∙ ap (λ (m : Upward). delivering stocked (st .args .i .station) (sentUp m) (arbiterOf mostStations (st .args .a))) is),
@@ -135,5 +135,5 @@ pub settle-spec : {M : Type 1} → statement M
 settle-spec =
     tie.close
     (tie.spec
-    (λ c κs. search needs) (λ c κs. search needs) returns (λ c κs. search needs) (λ c κs. search needs) (λ c κs. search needs) returns-2 (λ c κs. search needs) returns-3 (λ c. search needs)
+    (λ c κs. search needs) (λ c κs. search needs) (λ c κs. search needs) (λ c κs. search needs) returns (λ c κs. search needs) (λ c κs. search needs) returns-2 (λ c κs. search needs) returns-3 (λ c. search needs)
     (λ c κs. search needs) (λ c κs. search needs) (λ c κs. search needs) returns-4 deliver-lent-requires (λ c. search needs) deliver-lent-requires-2 returns-5 returns-6)
