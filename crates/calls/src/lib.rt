@@ -98,9 +98,8 @@ pub fn request(r: Record, s: usize, q: usize, h: usize) -> Answer
     if r.quorums as usize <= q {
         return refuse(r, refusals::NO_SUCH_QUORUM);
     }
-    let stock = r.stock;
     let u = units::units_of(h);
-    if !units::request_in(stock, u) {
+    if !units::request_in(r.stock, u) {
         return refuse(r, refusals::BAD_UNITS);
     }
     let station = r.stations[s];
@@ -120,14 +119,12 @@ pub fn up(r: Record, s: usize, j: usize) -> Answer
     if !records::in_range(r) {
         return refuse(r, refusals::OUT_OF_RANGE);
     }
-    let lanes = r.up;
-    let taken = taking::take_oldest(lanes, r.n as usize, s, j);
+    let taken = taking::take_oldest(r.up, r.n as usize, s, j);
     if taken.refusal != refusals::NO_REFUSAL {
         return refuse(r, taken.refusal);
     }
     let m = taken.message;
-    let rest = taken.rest;
-    ups::deliver_up(r, s, j, m, rest)
+    ups::deliver_up(r, s, j, m, taken.rest)
 }
 
 // The oldest message of arbiter j to station s is delivered.
@@ -138,14 +135,12 @@ pub fn down(r: Record, s: usize, j: usize) -> Answer
     if !records::in_range(r) {
         return refuse(r, refusals::OUT_OF_RANGE);
     }
-    let lanes = r.down;
-    let taken = taking::take_oldest(lanes, r.n as usize, s, j);
+    let taken = taking::take_oldest(r.down, r.n as usize, s, j);
     if taken.refusal != refusals::NO_REFUSAL {
         return refuse(r, taken.refusal);
     }
     let m = taken.message;
-    let rest = taken.rest;
-    downs::receive(r, s, j, m, rest)
+    downs::receive(r, s, j, m, taken.rest)
 }
 
 // Station s gives its units back.

@@ -21,14 +21,12 @@ pub(crate) fn deliver_up(r: Record, s: usize, j: usize, m: Message, rest: Lanes)
     let mut next = r;
     next.up = rest;
     let before = r.arbiters[j];
-    let stock = r.stock;
-    let delivery = arbiters::deliver(before, n, stock, s, m);
+    let delivery = arbiters::deliver(before, n, r.stock, s, m);
     if delivery.refusal != refusals::NO_REFUSAL {
         return crate::refuse(r, crate::NO_PLACE); // in the line
     }
-    let down = r.down;
     let line = delivery.line;
-    let sent = sending::send(down, n, j, line, delivery.grants);
+    let sent = sending::send(r.down, n, j, line, delivery.grants);
     if sent.full {
         return crate::refuse(r, crate::NO_PLACE); // in a lane down
     }

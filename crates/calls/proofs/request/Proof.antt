@@ -74,7 +74,7 @@ module _ (c : tie.After-request-in) where
 
   tested : c .request-in .result ≡ requestIn (r asked .stock) (unitsOf (start asked .args .h))
   tested =
-      c .request-in .ensures ∙ ap (requestIn (r asked .stock)) (c .before .units-of .ensures)
+      c .request-in .ensures ∙ ap (requestIn (r asked .stock)) (c .before .before .units-of .ensures)
       ∙ request-stored (r asked .stock) (start asked .args .h) (limits (r asked) (range asked) .stock .1)
 
 returns-4 : tie.Need-returns-4
@@ -133,9 +133,9 @@ module _ (c : tie.Else5) where
   few-quorums = omega (arith, before .before .before .before .before .if3 .left, quorums-few (args .args .t1) (range (others before)))
 
   -- what is asked for are the caller's units
-  is-units : before .before .before .units-of .result ≡ unitsOf (args .args .h)
+  is-units : before .before .before .before .units-of .result ≡ unitsOf (args .args .h)
   is-units =
-      before .before .before .units-of .ensures
+      before .before .before .before .units-of .ensures
       ∙ requested-stored (args .args .t1 .stock) (args .args .h)
       (request-stored (args .args .t1 .stock) (args .args .h) (limits (args .args .t1) (range (others before)) .stock .1) ∙ not-false _ (units before))
 

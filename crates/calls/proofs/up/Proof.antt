@@ -21,7 +21,7 @@ range c = sym (c .before .in-range .ensures) ∙ not-false _ (c .if1 .left)
 
 take-oldest-requires : tie.Need-take-oldest-requires
 take-oldest-requires c κs =
-    let e = c .before .before in
+    let e = c .before in
     let r = e .before .before .args .r in
     (few r (range e), λ s j p q. omega (arith, up-short r (range e) s j p q))
 
@@ -29,14 +29,14 @@ returns-2 : tie.Need-returns-2
 unfolding view
 returns-2 c =
     let t = c .before .before .before in
-    (c .refuse2 .ensures .0 ∙ sym (up-turned _ _ _ _ (range (t .before .before .before)) (c .before .if2 .taken) (t .take-oldest .ensures .0)), λ z. c .refuse2 .ensures .1)
+    (c .refuse2 .ensures .0 ∙ sym (up-turned _ _ _ _ (range (t .before .before)) (c .before .if2 .taken) (t .take-oldest .ensures .0)), λ z. c .refuse2 .ensures .1)
 
 deliver-up-requires : tie.Need-deliver-up-requires
 unfolding view
 deliver-up-requires c κs =
-    let t = c .before .before .before in
-    let e = t .before .before .before in
-    record { range = range e; few = few (e .before .before .args .r) (range e); took = t .take-oldest .ensures .1 (c .before .if2 .left) }
+    let t = c .before .before in
+    let e = t .before .before in
+    record { range = range e; few = few (e .before .before .args .r) (range e); took = t .take-oldest .ensures .1 (c .if2 .left) }
 
 pub up-spec : {M : Type 1} → statement M
 up-spec =
