@@ -1,43 +1,28 @@
 -- Calls as numbers, four at a time.
 -- Assumes nothing.
-use mathlib.Core.Bool.{true, false, _&&_}
-use mathlib.Core.List.{List, [], _∷_}
+use mathlib.Core.Bool.{true, _&&_, and-true}
+use mathlib.Core.List.{List, [], _∷_, _++_}
 use mathlib.Core.Logic.{by-cases}
 use mathlib.Core.Path.{_≡_, refl, sym, _∙_}
-use Prim.Native.Nat.{ℕ, _+_, _-_, _*_, _≤_, _<_}
+use Prim.Native.Nat.{ℕ, suc, _+_, _-_, _*_, _≤_, _<_}
 use native.Mathlib.Decide.{ℕ-discrete}
 use native.Mathlib.Omega.{arith}
 use lib.Dec.{eqb, ltb}
 use lib.ListN.{length, getD, drop, length-drop}
-use borrow.Author.Tests.{le-ltb, eq-eqb, ne-eqb}
+use borrow.Author.Tests.{ltb-true, eq-eqb, ne-eqb}
 use Rattle.lists.proofs.Joined.{drop-four}
-use Rattle.lists.proofs.Tests.{clash, and-right}
+use Rattle.lists.proofs.Tests.{clash, and-left, and-right}
 use Rattle.units.specs.Units.{unitsOf}
 use Rattle.plain.specs.Run.{Call}
-use Rattle.machine.specs.Performing.{formed, wellFormed, callOf, callsOf}
+use Rattle.machine.specs.Performing.{doWords, callNumbers, formed, wellFormed, callOf, callsOf}
 
 -- ---- one call
 
 module _ (what w h : ℕ) where
-  pub formed-request : what ≡ 0 → formed what w h ≡ true
+  -- what a call of the form is to do
+  pub formed-word : formed what w h ≡ true → what < doWords
   unfolding formed
-  formed-request e = rw (eq-eqb what 0 e)
-
-  pub formed-units : (what ≡ 0 → ⊥) → (h ≡ 0 → ⊥) → formed what w h ≡ false
-  unfolding formed
-  formed-units d u = rw (ne-eqb what 0 d, ne-eqb h 0 u)
-
-  pub formed-release : what ≡ 3 → h ≡ 0 → formed what w h ≡ eqb w 0
-  unfolding formed
-  formed-release e z = rw (e, z)
-
-  pub formed-others : (what ≡ 0 → ⊥) → (what ≡ 3 → ⊥) → h ≡ 0 → formed what w h ≡ ltb what 3
-  unfolding formed
-  formed-others d r z =
-      by-cases (ℕ-discrete what 1) (λ (e : what ≡ 1). rw (e, z))
-      (λ (d₁ : what ≡ 1 → ⊥).
-      by-cases (ℕ-discrete what 2) (λ (e : what ≡ 2). rw (e, z))
-      (λ (d₂ : what ≡ 2 → ⊥). rw (z, ne-eqb what 0 d, ne-eqb what 1 d₁, ne-eqb what 2 d₂, ne-eqb what 3 r, le-ltb what 3 (omega arith))))
+  formed-word e = ltb-true what doWords (and-left (ltb what doWords) _ e)
 
   module _ (s : ℕ) where
     pub call-request : what ≡ 0 → callOf what s w h ≡ Call.Request s w (unitsOf h)
@@ -55,6 +40,30 @@ module _ (what w h : ℕ) where
     pub call-release : (what ≡ 0 → ⊥) → (what ≡ 1 → ⊥) → (what ≡ 2 → ⊥) → callOf what s w h ≡ Call.Release s
     unfolding callOf
     call-release d₀ d₁ d₂ = rw (ne-eqb what 0 d₀, ne-eqb what 1 d₁, ne-eqb what 2 d₂)
+
+-- a list of one call
+pub one-formed : (what s w h : ℕ) → wellFormed (what ∷ s ∷ w ∷ h ∷ []) ≡ formed what w h
+unfolding wellFormed
+one-formed what s w h = and-true (formed what w h)
+
+-- ---- a call, and more after it
+
+of-four : (P : List ℕ → Type 0) → ((a b c d : ℕ) → P (a ∷ b ∷ c ∷ d ∷ [])) → (g : List ℕ) → length g ≡ callNumbers → P g
+of-four P f [] e = absurd (omega arith)
+of-four P f (a ∷ []) e = absurd (omega arith)
+of-four P f (a ∷ b ∷ []) e = absurd (omega arith)
+of-four P f (a ∷ b ∷ c ∷ []) e = absurd (omega arith)
+of-four P f (a ∷ b ∷ c ∷ d ∷ []) e = f a b c d
+of-four P f (a ∷ b ∷ c ∷ d ∷ x ∷ g) e = absurd (omega arith)
+
+pub one-call : (g rest : List ℕ) → length g ≡ callNumbers → length (callsOf (g ++ rest)) ≡ suc (length (callsOf rest))
+unfolding callsOf
+one-call g rest = of-four (λ g. length (callsOf (g ++ rest)) ≡ suc (length (callsOf rest))) (λ a b c d. refl) g
+
+pub calls-append : (g rest : List ℕ) → length g ≡ callNumbers → wellFormed (g ++ rest) ≡ (wellFormed g && wellFormed rest)
+unfolding wellFormed
+calls-append g rest =
+    of-four (λ g. wellFormed (g ++ rest) ≡ (wellFormed g && wellFormed rest)) (λ a b c d. rw (and-true (formed a c d))) g
 
 -- ---- a list of calls, from place i on
 

@@ -12,10 +12,33 @@ use Rattle.plain.specs.State.{State}
 use Rattle.records.specs.View.{view}
 use Rattle.machine.specs.declared.Performed.{Performed}
 
--- A call is four numbers: `do` (0 request, 1 up, 2 down, 3 release), `station`, `with` and `units`. "`with` is the quorum of a request,
--- the arbiter of up and down, 0 in a release. `units` is 0 except in a request."
+-- "`do` is request, up, down or release": their numbers in a list of calls, and how many they are
+abbrev pub doRequest : ℕ
+doRequest = 0
+
+abbrev pub doUp : ℕ
+doUp = 1
+
+abbrev pub doDown : ℕ
+doDown = 2
+
+abbrev pub doRelease : ℕ
+doRelease = 3
+
+abbrev pub doWords : ℕ
+doWords = 4
+
+-- a call is four numbers, `do`, `station`, `with` and `units`, and an answer three
+abbrev pub callNumbers : ℕ
+callNumbers = 4
+
+abbrev pub answerNumbers : ℕ
+answerNumbers = 3
+
+-- `do` is one of its words, `with` 0 in a release, `units` 0 except in a request: "`with` is the quorum of a request, the arbiter of up and
+-- down, 0 in a release. `units` is 0 except in a request."
 unfoldable pub formed : ℕ → ℕ → ℕ → Bool
-formed what w h = eqb what 0 || (eqb h 0 && (eqb what 1 || (eqb what 2 || (eqb what 3 && eqb w 0))))
+formed what w h = ltb what doWords && ((not (eqb what doRelease) || eqb w 0) && (eqb what doRequest || eqb h 0))
 
 -- four numbers a call, each call of the form
 unfoldable pub wellFormed : List ℕ → Bool
@@ -27,7 +50,7 @@ wellFormed (what ∷ s ∷ w ∷ h ∷ rest) = formed what w h && wellFormed res
 
 unfoldable pub callOf : ℕ → ℕ → ℕ → ℕ → Call
 callOf what s w h =
-    cond (eqb what 0) (Call.Request s w (unitsOf h)) (cond (eqb what 1) (Call.Up s w) (cond (eqb what 2) (Call.Down s w) (Call.Release s)))
+    cond (eqb what doRequest) (Call.Request s w (unitsOf h)) (cond (eqb what doUp) (Call.Up s w) (cond (eqb what doDown) (Call.Down s w) (Call.Release s)))
 
 unfoldable pub callsOf : List ℕ → List Call
 callsOf [] = []
@@ -43,7 +66,7 @@ wordsOf (a ∷ answers) = a .refusal ∷ numberOf (a .entered) ∷ numberOf (a .
 
 -- 15 where a call is "not of the form", 16 where the answers find no room ("15 before 16"); then no call is made
 abbrev pub listTests : List ℕ → ℕ → List Test
-listTests calls room = 15 when not (wellFormed calls) ∷ 16 when ltb room (3 * length (callsOf calls)) ∷ []
+listTests calls room = 15 when not (wellFormed calls) ∷ 16 when ltb room (answerNumbers * length (callsOf calls)) ∷ []
 
 unfoldable pub listRefusal : List ℕ → ℕ → ℕ
 listRefusal calls room = firstBroken (listTests calls room)
@@ -59,7 +82,7 @@ performance st calls room = record { refusal = listRefusal calls room; state = c
 -- the lent answers: those of the plain machine, one for one, and what lies beyond them
 unfoldable pub answersIn : State → List ℕ → List ℕ → List ℕ
 answersIn st calls out =
-    cond (eqb (listRefusal calls (length out)) 0) (wordsOf (run st (callsOf calls)) ++ drop (3 * length (callsOf calls)) out) out
+    cond (eqb (listRefusal calls (length out)) 0) (wordsOf (run st (callsOf calls)) ++ drop (answerNumbers * length (callsOf calls)) out) out
 
 -- what the code's answer says
 unfoldable pub performedOf : Performed → Performance

@@ -15,6 +15,7 @@ use crate::DO_DOWN;
 use crate::DO_RELEASE;
 use crate::DO_REQUEST;
 use crate::DO_UP;
+use crate::DO_WORDS;
 use calls::Answer;
 use records::Record;
 use units::Units;
@@ -22,19 +23,19 @@ use units::Units;
 pub fn is_formed(what: u16, with: u16, units: u16) -> bool
     ensures { λ r. ⌜ r ≡ formed what with units ⌝ }
 {
+    if DO_WORDS <= what {
+        return false;
+    }
+    if what == DO_RELEASE && with != 0 {
+        return false;
+    }
     if what == DO_REQUEST {
         return true;
     }
-    if units != 0 {
-        return false;
-    }
-    if what == DO_RELEASE {
-        return with == 0;
-    }
-    what < DO_RELEASE
+    units == 0
 }
 
-pub(crate) fn all_formed(calls: &[u16]) -> bool
+pub fn all_formed(calls: &[u16]) -> bool
     ensures { λ r. ⌜ r ≡ wellFormed (now (calls .entry)) ⌝ }
 {
     let len = calls.len();
