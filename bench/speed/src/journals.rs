@@ -18,14 +18,13 @@ pub fn by_model() {
     written.expect("standard output takes the page");
 }
 
-/// The times of both, in nanoseconds, and the page.
-fn times(folder: &Folder, name: &str, text: &str) -> (f64, f64, String) {
+/// The times of the program and of another, in nanoseconds, and the page.
+fn times(other: &mut Program, folder: &Folder, name: &str, text: &str) -> (f64, f64, String) {
     let input = folder.write(name, text.as_bytes());
     let mut verified = Program::verified("journal", folder);
-    let mut model = Program::model(MODE, folder);
-    race(&mut verified, &mut model, &input, ROUNDS);
+    race(&mut verified, other, &input, ROUNDS);
     let page = String::from_utf8(verified.output()).expect("a page is text");
-    (verified.best.nanoseconds, model.best.nanoseconds, page)
+    (verified.best.nanoseconds, other.best.nanoseconds, page)
 }
 
 /// How many lines of the page have that key and not 0.
@@ -34,17 +33,19 @@ fn count(page: &str, key: &str) -> usize {
     page.lines().filter(not_zero).count()
 }
 
-pub fn compare(folder: &Folder) {
+/// Every journal against another program, which is made anew for each.
+fn compare_with(other: &str, make: impl Fn() -> Program, folder: &Folder) {
     let journals = [
         ("P2 in turns", texts::turns()),
         ("12 stations, contention", texts::contention()),
         ("12 stations, all refused", texts::refusals()),
+        ("no stations, steps only read", texts::only_read()),
     ];
-    let (empty, model_empty, _) = times(folder, "empty", "");
-    heading("journal, a process", "model");
-    line("empty input", empty, model_empty);
+    let (empty, other_empty, _) = times(&mut make(), folder, "empty", "");
+    heading("journal, a process", other);
+    line("empty input", empty, other_empty);
     for (name, text) in &journals {
-        let (verified, model, page) = times(folder, "journal", text);
+        let (verified, other, page) = times(&mut make(), folder, "journal", text);
         println!(
             "{name}: bytes={} steps={} entered={} refused={}",
             text.len(),
@@ -52,11 +53,19 @@ pub fn compare(folder: &Folder) {
             count(&page, "entered="),
             count(&page, "refused=")
         );
-        line("  whole", verified, model);
+        line("  whole", verified, other);
         line(
             "  less the empty input",
             verified - empty,
-            model - model_empty,
+            other - other_empty,
         );
+    }
+}
+
+pub fn compare(folder: &Folder) {
+    compare_with("model", || Program::model(MODE, folder), folder);
+    if Program::earlier("journal", folder).is_some() {
+        let earlier = || Program::earlier("journal", folder).expect("an earlier checkout");
+        compare_with("earlier", earlier, folder);
     }
 }

@@ -49,6 +49,17 @@ impl Program {
         }
     }
 
+    /// The verified program of an earlier checkout, where there is one.
+    pub fn earlier(name: &str, folder: &Folder) -> Option<Program> {
+        let checkout = std::env::var_os("PAFLUZENO_EARLIER")?;
+        Some(Program {
+            path: Path::new(&checkout).join("target/bin").join(name),
+            argument: None,
+            output: folder.0.join("earlier"),
+            best: Best::new(),
+        })
+    }
+
     /// The model's part of it: a mode of this very program.
     pub fn model(mode: &'static str, folder: &Folder) -> Program {
         Program {
@@ -78,10 +89,10 @@ impl Program {
 }
 
 /// Both on the same input in turns. The outputs are the same.
-pub fn race(verified: &mut Program, model: &mut Program, input: &Path, rounds: usize) {
+pub fn race(verified: &mut Program, other: &mut Program, input: &Path, rounds: usize) {
     for _ in 0..rounds {
         verified.run(input);
-        model.run(input);
-        assert!(verified.output() == model.output(), "{input:?}");
+        other.run(input);
+        assert!(verified.output() == other.output(), "{input:?}");
     }
 }

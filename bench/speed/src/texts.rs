@@ -99,3 +99,16 @@ pub fn refusals() -> String {
     }
     text
 }
+
+/// The same steps behind a table that is refused: they are read, and neither made nor printed.
+pub fn only_read() -> String {
+    let mut rng = Rng::new(8);
+    let mut text = table_lines(0, 200, &[]);
+    loop {
+        let lines = refused(&mut rng).lines();
+        if text.len() + lines.len() > MOST_INPUT {
+            return text;
+        }
+        text += &lines;
+    }
+}
