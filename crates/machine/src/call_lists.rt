@@ -15,7 +15,7 @@ use crate::DO_DOWN;
 use crate::DO_RELEASE;
 use crate::DO_REQUEST;
 use crate::DO_UP;
-use crate::DO_WORDS;
+use crate::WORDS_OF_DO;
 use calls::Answer;
 use records::Record;
 use units::Units;
@@ -23,7 +23,7 @@ use units::Units;
 pub fn is_formed(what: u16, with: u16, units: u16) -> bool
     ensures { λ r. ⌜ r ≡ formed what with units ⌝ }
 {
-    if DO_WORDS <= what {
+    if WORDS_OF_DO <= what {
         return false;
     }
     if what == DO_RELEASE && with != 0 {

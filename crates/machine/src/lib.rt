@@ -34,7 +34,7 @@ pub const DO_DOWN: u16 = 2;
 pub const DO_RELEASE: u16 = 3;
 
 // How many words `do` has.
-pub const DO_WORDS: u16 = 4;
+pub const WORDS_OF_DO: u16 = 4;
 
 // What a list of calls answers besides the numbers: whether the list was refused, and the record after it.
 pub struct Performed {

@@ -3,6 +3,7 @@
 ghost use mathlib.Core.Path.{_≡_};
 ghost use lib.ListN.{length};
 ghost use Rattle.archive.specs.Tallies.{tallyOf, tallying};
+ghost use Rattle.journal_lines.specs.Forms.{journalForm};
 ghost use Rattle.journal_lines.specs.Lines.{lineValue, linePlace};
 ghost use Rattle.journal_text.specs.JournalRecords.{numbersOf, readOf, recordIn, afterRecord, writing, writtenInto};
 ghost use Rattle.journal_text.specs.Page.{printing, printedInto};
@@ -22,7 +23,7 @@ pub struct Part {
 // The value of the line that a text begins with, by its key. The empty part, in front of the text, is 15.
 #[no_mangle]
 pub extern "C" fn pafluzeno_read_line(key: &[u8], text: &[u8]) -> Part
-    ensures { λ r. ⌜ r ≡ record { place = linePlace (now (key .entry)) (now (text .entry)); len = length (lineValue (now (key .entry)) (now (text .entry))) } ⌝ }
+    ensures { λ r. ⌜ r ≡ record { place = linePlace journalForm (now (key .entry)) (now (text .entry)); len = length (lineValue journalForm (now (key .entry)) (now (text .entry))) } ⌝ }
 {
     let value = journal_lines::read_line(key, text);
     let len = value.len();
@@ -36,7 +37,7 @@ pub extern "C" fn pafluzeno_read_line(key: &[u8], text: &[u8]) -> Part
 // The record that a text begins with, and the bytes that lie before what is handed on.
 #[no_mangle]
 pub extern "C" fn pafluzeno_read_record(text: &[u8]) -> ReadRecord
-    ensures { λ r. ⌜ readOf r ≡ recordIn (now (text .entry)) ⌝ }
+    ensures { λ r. ⌜ readOf r ≡ recordIn journalForm (now (text .entry)) ⌝ }
 {
     journal_text::read_record(text)
 }
@@ -44,7 +45,7 @@ pub extern "C" fn pafluzeno_read_record(text: &[u8]) -> ReadRecord
 // The text after the record that a text begins with; on 15 the empty part at its end.
 #[no_mangle]
 pub extern "C" fn pafluzeno_after_record(text: &[u8]) -> Part
-    ensures { λ r. ⌜ r ≡ record { place = recordIn (now (text .entry)) .taken; len = length (afterRecord (now (text .entry))) } ⌝ }
+    ensures { λ r. ⌜ r ≡ record { place = recordIn journalForm (now (text .entry)) .taken; len = length (afterRecord journalForm (now (text .entry))) } ⌝ }
 {
     let rest = journal_text::after_record(text);
     let len = rest.len();
@@ -55,8 +56,8 @@ pub extern "C" fn pafluzeno_after_record(text: &[u8]) -> Part
 // A record, written into the rest of a buffer from a given place.
 #[no_mangle]
 pub extern "C" fn pafluzeno_write_record(out: &mut [u8], at: usize, r: JournalRecord) -> Written
-    ensures answer { λ w. ⌜ w ≡ writing (numbersOf r) (length (now (out .entry))) at ⌝ }
-    ensures lent { λ _. ⌜ now (out .exit) ≡ writtenInto (numbersOf r) (now (out .entry)) at ⌝ }
+    ensures answer { λ w. ⌜ w ≡ writing journalForm (numbersOf r) (length (now (out .entry))) at ⌝ }
+    ensures lent { λ _. ⌜ now (out .exit) ≡ writtenInto journalForm (numbersOf r) (now (out .entry)) at ⌝ }
 {
     journal_text::write_record(out, at, r)
 }

@@ -3,6 +3,7 @@
 use mathlib.Core.Path.{ap₂}
 use Prim.Native.Nat.{ℕ}
 use borrow.Author.Needs.{needs}
+use Rattle.journal_lines.specs.Forms.{journalForm}
 use Rattle.journal_lines.proofs.LinePlaces.{part-none, part-some}
 use Rattle.pafluzeno.proofs.journal.pafluzeno_read_line.Statement.{statement}
 use Rattle.pafluzeno.proofs.journal.pafluzeno_read_line.Tie as tie
@@ -13,7 +14,7 @@ read-line-requires c κs = search needs
 returns : tie.Need-returns
 returns c =
     let st = c .before .before .before .before .args in
-    let part = part-none (st .key .now) (st .text .now) (c .before .read-line .result .now) (c .before .read-line .ensures .0) (c .if1 .taken) in
+    let part = part-none journalForm (st .key .now) (st .text .now) (c .before .read-line .result .now) (c .before .read-line .ensures .0) (c .if1 .taken) in
     ap₂ (λ (p n : ℕ). record { place = p; len = n }) (part .0) (part .1)
 
 add-place : tie.Need-add-place
@@ -22,7 +23,7 @@ add-place c = search needs
 returns-2 : tie.Need-returns-2
 returns-2 c =
     let st = c .before .before .before .before .args in
-    let part = part-some (st .key .now) (st .text .now) (c .before .read-line .result .now) (c .before .read-line .ensures .0) (c .if1 .left) in
+    let part = part-some journalForm (st .key .now) (st .text .now) (c .before .read-line .result .now) (c .before .read-line .ensures .0) (c .if1 .left) in
     ap₂ (λ (p n : ℕ). record { place = p; len = n }) (part .0) (part .1)
 
 pub pafluzeno-read-line-spec : {M : Type 1} → statement M
