@@ -2,16 +2,17 @@
 // place in that text and its length.
 ghost use mathlib.Core.Path.{_≡_};
 ghost use lib.ListN.{length};
-ghost use Rattle.archive.specs.Tallies.{tallyOf, tallying};
 ghost use Rattle.journal_lines.specs.Forms.{journalForm};
 ghost use Rattle.journal_lines.specs.Lines.{lineValue, linePlace};
-ghost use Rattle.journal_text.specs.JournalRecords.{numbersOf, readOf, recordIn, afterRecord, writing, writtenInto};
-ghost use Rattle.journal_text.specs.Page.{printing, printedInto};
+ghost use Rattle.journal_reading.specs.JournalRecords.{numbersOf, readOf, recordIn, afterRecord};
+ghost use Rattle.journal_writing.specs.Page.{printing, printedInto};
+ghost use Rattle.journal_writing.specs.Writing.{writing, writtenInto};
+ghost use Rattle.archive.specs.Tallies.{tallyOf, tallying};
 use archive::Totals;
-use journal_text::JournalRecord;
-use journal_text::Printed;
-use journal_text::ReadRecord;
-use journal_text::Written;
+use journal_reading::JournalRecord;
+use journal_reading::ReadRecord;
+use journal_writing::Printed;
+use journal_writing::Written;
 
 // A part of a lent text: where it begins, and its bytes.
 #[repr(C)]
@@ -39,7 +40,7 @@ pub extern "C" fn pafluzeno_read_line(key: &[u8], text: &[u8]) -> Part
 pub extern "C" fn pafluzeno_read_record(text: &[u8]) -> ReadRecord
     ensures { λ r. ⌜ readOf r ≡ recordIn journalForm (now (text .entry)) ⌝ }
 {
-    journal_text::read_record(text)
+    journal_reading::read_record(text)
 }
 
 // The text after the record that a text begins with; on 15 the empty part at its end.
@@ -47,7 +48,7 @@ pub extern "C" fn pafluzeno_read_record(text: &[u8]) -> ReadRecord
 pub extern "C" fn pafluzeno_after_record(text: &[u8]) -> Part
     ensures { λ r. ⌜ r ≡ record { place = recordIn journalForm (now (text .entry)) .taken; len = length (afterRecord journalForm (now (text .entry))) } ⌝ }
 {
-    let rest = journal_text::after_record(text);
+    let rest = journal_reading::after_record(text);
     let len = rest.len();
     let place = text.len() - len;
     Part { place, len }
@@ -59,7 +60,7 @@ pub extern "C" fn pafluzeno_write_record(out: &mut [u8], at: usize, r: JournalRe
     ensures answer { λ w. ⌜ w ≡ writing journalForm (numbersOf r) (length (now (out .entry))) at ⌝ }
     ensures lent { λ _. ⌜ now (out .exit) ≡ writtenInto journalForm (numbersOf r) (now (out .entry)) at ⌝ }
 {
-    journal_text::write_record(out, at, r)
+    journal_writing::write_record(out, at, r)
 }
 
 // A text that is records and nothing else, added up.
@@ -76,5 +77,5 @@ pub extern "C" fn pafluzeno_page(text: &[u8], out: &mut [u8]) -> Printed
     ensures answer { λ p. ⌜ p ≡ printing (now (text .entry)) (length (now (out .entry))) ⌝ }
     ensures lent { λ _. ⌜ now (out .exit) ≡ printedInto (now (text .entry)) (now (out .entry)) ⌝ }
 {
-    journal_text::print_page(text, out)
+    journal_writing::print_page(text, out)
 }

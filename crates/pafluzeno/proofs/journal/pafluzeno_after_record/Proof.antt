@@ -6,7 +6,7 @@ use native.Mathlib.Omega.{arith}
 use lib.ListN.{length}
 use borrow.Author.Needs.{needs}
 use Rattle.journal_lines.specs.Forms.{journalForm}
-use Rattle.journal_text.proofs.AfterRecord.{taken-agrees}
+use Rattle.journal_reading.proofs.AfterRecord.{taken-agrees}
 use Rattle.pafluzeno.proofs.journal.pafluzeno_after_record.Statement.{statement}
 use Rattle.pafluzeno.proofs.journal.pafluzeno_after_record.Tie as tie
 
