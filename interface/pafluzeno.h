@@ -1,10 +1,12 @@
 /* The calls of a station: the check of a quorum table, ready-made tables, the arbiter of the station's own record, and the journal.
- * They stand in target/staticlib/libpafluzeno.a, which `rt staticlib pafluzeno` proves and writes (x86-64), and need no other library.
+ * They stand in target/staticlib/libpafluzeno.a, which `rt staticlib pafluzeno` proves and writes (x86-64). It needs two functions of C, memcpy
+ * and memset, and nothing else; it takes no memory but what it is lent and the stack, and remembers nothing from one call to the next.
  *
  * A table, a key and a text are lent to be read; scratch, a buffer and an arbiter's record are lent to be written; no call keeps any of them.
  * Every call ends and answers for all numbers and all contents of what it is lent, good or bad. What the caller owes is C's own: a pointer
  * is not null, also where its length is 0; it leads to as many elements as its length says; what a call may write overlaps nothing else that
- * the same call is lent; and one record is lent to one call at a time. */
+ * the same call is lent; one record is lent to one call at a time; and a `bool` is 0 or 1. In C a bool always is, unless bytes were copied into
+ * it; of any other byte there nothing is promised. */
 #ifndef PAFLUZENO_H
 #define PAFLUZENO_H
 
@@ -22,6 +24,11 @@ extern "C" {
 #define PAFLUZENO_MOST_QUORUMS 64
 #define PAFLUZENO_SCRATCH_BYTES 4096
 #define PAFLUZENO_PAGE_ROOM 196617 /* the bytes of a buffer that is long enough for every page of the journal */
+
+/* So many bytes of stack are enough for every call. Measured (stack.c), not proved: pafluzeno_page takes 66,928 bytes, which is also the
+ * most on any path through its compiled code; every other call takes 1,072 or less. The rest is for memcpy and memset, and for the loader,
+ * which may run on the caller's stack when they are first used. The program `journal`, which has its buffers on the stack, takes 332 KiB. */
+#define PAFLUZENO_STACK_BYTES 81920
 
 /* The refusals, by name and number. The calls below give 1 to 8, 10 and 14 to 19; the others, 9 and 11 to 13, are the machine's, which a
  * journal's record names by number. */
@@ -48,9 +55,10 @@ enum pafluzeno_refusal {
     PAFLUZENO_OUT_OF_RANGE = 19      /* record out of range */
 };
 
-/* What the check answers. Width is the size of the smallest family of quorums without a common station, 0 if there is none. Even is 1 when
- * all stations belong to equally many quorums, else 0. On refusal 6 the first `size` numbers of `family` name such a family; otherwise size
- * is 0. */
+/* What the check answers. On an accepted table and on refusals 6 and 7 width is the size of the smallest family of quorums without a common
+ * station, 0 if there is none; on refusals 1 to 5 it is 0 and says nothing. On an accepted table even is 1 when all stations belong to equally
+ * many quorums, else 0; on every refusal it is 0 and says nothing. On refusal 6 the first `size` numbers of `family` name the first smallest
+ * family without a common station; otherwise size is 0. What lies in `family` beyond `size` is not part of the answer. */
 struct pafluzeno_checked {
     uint8_t refusal;
     size_t width;
