@@ -56,9 +56,9 @@ enum pafluzeno_refusal {
 };
 
 /* What the check answers. On an accepted table and on refusals 6 and 7 width is the size of the smallest family of quorums without a common
- * station, 0 if there is none; on refusals 1 to 5 it is 0 and says nothing. On an accepted table even is 1 when all stations belong to equally
- * many quorums, else 0; on every refusal it is 0 and says nothing. On refusal 6 the first `size` numbers of `family` name the first smallest
- * family without a common station; otherwise size is 0. What lies in `family` beyond `size` is not part of the answer. */
+ * station, 0 if there is none; on refusals 1 to 5 it is 0 and says nothing. On an accepted table even is 1 where every station is in the same
+ * number of quorums, and 0 where not; on every refusal it is 0 and says nothing. On refusal 6 the first `size` numbers of `family` name the first
+ * smallest family without a common station; otherwise size is 0. What lies in `family` beyond `size` is not part of the answer. */
 struct pafluzeno_checked {
     uint8_t refusal;
     size_t width;
@@ -67,12 +67,12 @@ struct pafluzeno_checked {
     uint8_t family[PAFLUZENO_MOST_STATIONS];
 };
 
-/* The check of a table of n stations and a stock of k: refusals 1 to 7, in that order. In a quorum bit i, worth 2^i, is one exactly when
- * station i is a member. A scratch of 4,096 bytes or more has zeros in its first 4,096 bytes afterwards, on every answer, and is unchanged
- * beyond; a shorter one is unchanged. */
+/* The check of a table of n stations and a stock of k: refusals 1 to 7, in that order. A quorum is the sum of 2^i over its members i. Where the
+ * scratch has 4,096 bytes, its first 4,096 are zeros afterwards, on every answer; all its other bytes, and all of a shorter one, stay as they
+ * are. */
 struct pafluzeno_checked pafluzeno_check(size_t n, size_t k, const uint16_t *quorums, size_t quorums_len, uint8_t *scratch, size_t scratch_len);
 
-/* What the maker of a table answers: the refusal, and the number of quorums written, 0 on a refusal. */
+/* What the maker of a table answers: the refusal, and how many quorums it wrote, none on a refusal. */
 struct pafluzeno_made {
     uint8_t refusal;
     size_t quorums;
@@ -112,14 +112,14 @@ struct pafluzeno_arrival {
     size_t units;
 };
 
-/* The refusal, and the set of stations granted: bit i, worth 2^i, is one exactly when GRANT is to be sent to station i. */
+/* The refusal, and the set of stations granted: the sum of 2^i over the stations i to which GRANT is to be sent. */
 struct pafluzeno_reply {
     uint8_t refusal;
     uint16_t granted;
 };
 
 /* The arbiter's part of one message on its lent record: refusals 2, 19, 8, 10 (REQUEST only), 14 (REQUEST only), in that order. A refusal
- * grants nobody and leaves the record as it was. */
+ * grants nobody and leaves the record as it was. What the arbiter does, and when a station is granted, is in docs/RULES.md, 4.6, 4.7 and 6. */
 struct pafluzeno_reply pafluzeno_tell(struct pafluzeno_arbiter *arbiter, struct pafluzeno_arrival message);
 
 /* The journal. Its text is lines key=value, each with a line feed; a number is 0 to 65535 without leading zeros. The only refusals of its
@@ -132,8 +132,8 @@ struct pafluzeno_part {
 };
 
 /* The value of the line of that key that the text begins with. For the key `do` it is request, up, down or release, for every other key a
- * number. Refusal 15 is the empty part at place 0, and no value is empty: the text does not begin with a whole line of that key with an
- * allowed value, or the key holds `=` or a line feed. The next line begins at place + len + 1. */
+ * number. Refusal 15 is the empty part at place 0, and no value is empty: no whole line of that key, its value allowed, stands at the front of
+ * the text, or the key has `=` or a line feed in it. Otherwise the next line begins at place + len + 1. */
 struct pafluzeno_part pafluzeno_read_line(const uint8_t *key, size_t key_len, const uint8_t *text, size_t text_len);
 
 /* The words of `do`, by number. */
@@ -145,8 +145,8 @@ enum pafluzeno_do {
 };
 
 /* A record: what was done, and what was answered. In a text it is the lines do, station, with, units, refused, entered and left, 58 to 87
- * bytes. `with` is the quorum of a request, the arbiter of up and down, 0 in a release; `units` is 0 except in a request. Anything else is
- * not of the form. */
+ * bytes. In a request `with` is the quorum's number, in up and down the arbiter's, and in a release it is 0; `units` is 0 in all but a request.
+ * A record that says otherwise is not of the form. */
 struct pafluzeno_record {
     uint16_t what; /* one of enum pafluzeno_do */
     uint16_t station;
