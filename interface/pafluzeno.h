@@ -5,12 +5,10 @@
  * A table, a key and a text are lent to be read; scratch, a buffer and an arbiter's record are lent to be written; no call keeps any of them.
  * Every call ends and answers for all numbers and all contents of what it is lent, good or bad. What the caller owes is C's own: a pointer
  * is not null, also where its length is 0; it leads to as many elements as its length says; what a call may write overlaps nothing else that
- * the same call is lent; one record is lent to one call at a time; and a `bool` is 0 or 1. In C a bool always is, unless bytes were copied into
- * it; of any other byte there nothing is promised. */
+ * the same call is lent; and one record is lent to one call at a time. */
 #ifndef PAFLUZENO_H
 #define PAFLUZENO_H
 
-#include <stdbool.h>
 #include <stddef.h>
 #include <stdint.h>
 
@@ -25,12 +23,12 @@ extern "C" {
 #define PAFLUZENO_SCRATCH_BYTES 4096
 #define PAFLUZENO_PAGE_ROOM 196617 /* the bytes of a buffer that is long enough for every page of the journal */
 
-/* So many bytes of stack are enough for every call. Measured (stack.c), not proved: pafluzeno_page takes 66,928 bytes, which is also the
- * most on any path through its compiled code; every other call takes 1,072 or less. The rest is for memcpy and memset, and for the loader,
- * which may run on the caller's stack when they are first used. The program `journal`, which has its buffers on the stack, takes 332 KiB. */
+/* So many bytes of stack are enough for every call. Measured (stack.c), not proved: pafluzeno_page takes 63,776 bytes, every other call 1,040 or
+ * less. The rest is for memcpy and memset, for the loader, which may run on the caller's stack when they are first used, and for a compiler that
+ * lays the calls out otherwise. The program `journal`, which has its buffers on the stack, takes 332 KiB. */
 #define PAFLUZENO_STACK_BYTES 81920
 
-/* The refusals, by name and number. The calls below give 1 to 8, 10 and 14 to 19; the others, 9 and 11 to 13, are the machine's, which a
+/* The refusals, by name and number. The calls below give 1 to 8, 10 and 14 to 19; the others, 9, 11 to 13 and 20, are the machine's, which a
  * journal's record names by number. */
 enum pafluzeno_refusal {
     PAFLUZENO_NO_REFUSAL = 0,
@@ -48,11 +46,12 @@ enum pafluzeno_refusal {
     PAFLUZENO_NOT_HOLDING = 12,      /* release: the station does not hold */
     PAFLUZENO_EMPTY_LANE = 13,       /* up, down: the lane is empty */
     PAFLUZENO_NO_PLACE = 14,         /* a lane or line would pass its limit */
-    PAFLUZENO_BAD_FORM = 15,         /* journal text or record not of the form */
+    PAFLUZENO_BAD_FORM = 15,         /* journal text or record not of the form, or a number that is no message */
     PAFLUZENO_SHORT_BUFFER = 16,     /* output buffer too short */
     PAFLUZENO_NO_CUBE = 17,          /* cube with a = 0 or more than 12 stations */
     PAFLUZENO_TOO_MANY_QUORUMS = 18, /* ready-made table above 64 quorums */
-    PAFLUZENO_OUT_OF_RANGE = 19      /* record out of range */
+    PAFLUZENO_OUT_OF_RANGE = 19,     /* record out of range */
+    PAFLUZENO_NOT_COLLECTING = 20    /* withdraw: the station does not collect */
 };
 
 /* What the check answers. On an accepted table and on refusals 6 and 7 width is the size of the smallest family of quorums without a common
@@ -104,22 +103,31 @@ struct pafluzeno_arbiter {
     struct pafluzeno_entry line[PAFLUZENO_MOST_STATIONS];
 };
 
-/* A message that reaches it: the stock, the station that sent it, whether it is a REQUEST or a RELEASE, and the units of a REQUEST. */
+/* The messages that go up to it, by number. */
+enum pafluzeno_message {
+    PAFLUZENO_RELEASE = 0,
+    PAFLUZENO_REQUEST = 1,
+    PAFLUZENO_WITHDRAW = 2
+};
+
+/* A message that reaches it: the stock, the station that sent it, which message it is, and the units of a REQUEST. */
 struct pafluzeno_arrival {
     size_t stock;
     size_t station;
-    bool request;
+    uint8_t message; /* one of enum pafluzeno_message */
     size_t units;
 };
 
-/* The refusal, and the set of stations granted: the sum of 2^i over the stations i to which GRANT is to be sent. */
+/* The refusal, and the set of stations granted: the sum of 2^i over the stations i to which GRANT is to be sent. To a station whose WITHDRAW is
+ * not refused GONE is to be sent, before them; the set does not say so. */
 struct pafluzeno_reply {
     uint8_t refusal;
     uint16_t granted;
 };
 
-/* The arbiter's part of one message on its lent record: refusals 2, 19, 8, 10 (REQUEST only), 14 (REQUEST only), in that order. A refusal
- * grants nobody and leaves the record as it was. What the arbiter does, and when a station is granted, is in docs/RULES.md, 4.6, 4.7 and 6. */
+/* The arbiter's part of one message on its lent record: refusals 15 (no message has that number), 2, 19, 8, 10 (REQUEST only), 14 (REQUEST
+ * only), in that order. A refusal grants nobody and leaves the record as it was. What the arbiter does, and when a station is granted, is in
+ * docs/RULES.md, 4.6, 4.7 and 6. */
 struct pafluzeno_reply pafluzeno_tell(struct pafluzeno_arbiter *arbiter, struct pafluzeno_arrival message);
 
 /* The journal. Its text is lines key=value, each with a line feed; a number is 0 to 65535 without leading zeros. The only refusals of its
@@ -131,9 +139,9 @@ struct pafluzeno_part {
     size_t len;
 };
 
-/* The value of the line of that key that the text begins with. For the key `do` it is request, up, down or release, for every other key a
- * number. Refusal 15 is the empty part at place 0, and no value is empty: no whole line of that key, its value allowed, stands at the front of
- * the text, or the key has `=` or a line feed in it. Otherwise the next line begins at place + len + 1. */
+/* The value of the line of that key that the text begins with. For the key `do` it is request, up, down, release or withdraw, for every other
+ * key a number. Refusal 15 is the empty part at place 0, and no value is empty: no whole line of that key, its value allowed, stands at the
+ * front of the text, or the key has `=` or a line feed in it. Otherwise the next line begins at place + len + 1. */
 struct pafluzeno_part pafluzeno_read_line(const uint8_t *key, size_t key_len, const uint8_t *text, size_t text_len);
 
 /* The words of `do`, by number. */
@@ -141,12 +149,13 @@ enum pafluzeno_do {
     PAFLUZENO_DO_REQUEST = 0,
     PAFLUZENO_DO_UP = 1,
     PAFLUZENO_DO_DOWN = 2,
-    PAFLUZENO_DO_RELEASE = 3
+    PAFLUZENO_DO_RELEASE = 3,
+    PAFLUZENO_DO_WITHDRAW = 4
 };
 
 /* A record: what was done, and what was answered. In a text it is the lines do, station, with, units, refused, entered and left, 58 to 87
- * bytes. In a request `with` is the quorum's number, in up and down the arbiter's, and in a release it is 0; `units` is 0 in all but a request.
- * A record that says otherwise is not of the form. */
+ * bytes. In a request `with` is the quorum's number, in up and down the arbiter's, and in a release and a withdraw it is 0; `units` is 0 in all
+ * but a request. A record that says otherwise is not of the form. */
 struct pafluzeno_record {
     uint16_t what; /* one of enum pafluzeno_do */
     uint16_t station;

@@ -2,6 +2,7 @@
  * lead it to its deepest places. More than the header says ends the program, and so does an answer that is not the one expected. */
 #define _POSIX_C_SOURCE 200809L /* pthread_attr_setstack */
 #include <pthread.h>
+#include <stdbool.h>
 #include <stdio.h>
 #include <stdlib.h>
 #include <string.h>
@@ -21,7 +22,7 @@ static const struct pafluzeno_arbiter waiting = {
 
 static _Alignas(4096) uint8_t stack[STACK];
 static uint16_t table[QUORUMS + 1], out[QUORUMS];
-static uint8_t scratch[PAFLUZENO_SCRATCH_BYTES], records[400], text[MOST_TEXT + 50], page[PAFLUZENO_PAGE_ROOM];
+static uint8_t scratch[PAFLUZENO_SCRATCH_BYTES], records[500], text[MOST_TEXT + 50], page[PAFLUZENO_PAGE_ROOM];
 static size_t records_len, text_len, page_len, records_at;
 
 static void expect(bool condition, enum call call, const char *what)
@@ -52,17 +53,19 @@ static bool made(enum call call)
         return pafluzeno_uniform(STATIONS, 11, out, QUORUMS).quorums == 1 && pafluzeno_uniform(8, 1, out, QUORUMS).quorums == 56;
     case CUBE:
         return pafluzeno_cube(3, 1, out, QUORUMS).quorums == 9 && pafluzeno_cube(2, 2, out, QUORUMS).quorums == 8;
-    case TELL: /* a request that fills the line, and a release to a full one: all are granted */
-        good = pafluzeno_tell(&arbiter, (struct pafluzeno_arrival){200, 11, true, 1}).granted == 4095;
+    case TELL: /* a request that fills the line, a release to a full one, a withdrawal from it: all are granted that are left */
+        good = pafluzeno_tell(&arbiter, (struct pafluzeno_arrival){200, 11, PAFLUZENO_REQUEST, 1}).granted == 4095;
         arbiter = waiting, arbiter.len = STATIONS;
-        return good && pafluzeno_tell(&arbiter, (struct pafluzeno_arrival){200, 11, false, 0}).granted == 4095;
+        good = good && pafluzeno_tell(&arbiter, (struct pafluzeno_arrival){200, 11, PAFLUZENO_RELEASE, 0}).granted == 4095;
+        arbiter = waiting, arbiter.len = STATIONS;
+        return good && pafluzeno_tell(&arbiter, (struct pafluzeno_arrival){200, 11, PAFLUZENO_WITHDRAW, 0}).granted == 2047;
     case WRITE_RECORD: /* the longest of each word */
         records_len = 0;
-        for (uint16_t what = 0; what < 4; what++) {
+        for (uint16_t what = 0; what < 5; what++) {
             struct pafluzeno_record r = {what, 65535, what < 3 ? 65535 : 0, what < 1 ? 65535 : 0, 65535, 65535, 65535};
             records_len = pafluzeno_write_record(records, sizeof records, records_len, r).place;
         }
-        return records_len == 87 + 78 + 80 + 79;
+        return records_len == 87 + 78 + 80 + 79 + 80;
     case READ_LINE:
         good = pafluzeno_read_line((const uint8_t *)"do", 2, records, records_len).len == 7;
         return good && pafluzeno_read_line((const uint8_t *)"station", 7, records + 11, records_len - 11).len == 5;

@@ -80,13 +80,16 @@ int main(void)
     struct pafluzeno_arbiter fresh = {0}, busy = {.granted = {1}, .len = 1, .line = {{2, 1}}}, full = {.len = 12}, long_line = {.len = 13};
     for (int i = 0; i < PAFLUZENO_MOST_STATIONS; i++)
         full.line[i] = (struct pafluzeno_entry){.station = 1, .units = 1};
-    tell("request", fresh, (struct pafluzeno_arrival){2, 0, true, 2}, PAFLUZENO_NO_REFUSAL);
-    tell("request behind another", busy, (struct pafluzeno_arrival){1, 1, true, 1}, PAFLUZENO_NO_REFUSAL);
-    tell("release", busy, (struct pafluzeno_arrival){1, 0, false, 0}, PAFLUZENO_NO_REFUSAL);
-    tell("stock 201", fresh, (struct pafluzeno_arrival){201, 0, true, 1}, PAFLUZENO_BAD_STOCK);
-    tell("a line of 13", long_line, (struct pafluzeno_arrival){1, 0, true, 1}, PAFLUZENO_OUT_OF_RANGE);
-    tell("station 12", fresh, (struct pafluzeno_arrival){1, 12, true, 1}, PAFLUZENO_NO_SUCH_STATION);
-    tell("2 units of 1", fresh, (struct pafluzeno_arrival){1, 0, true, 2}, PAFLUZENO_BAD_UNITS);
-    tell("a full line", full, (struct pafluzeno_arrival){1, 0, true, 1}, PAFLUZENO_NO_PLACE);
+    tell("request", fresh, (struct pafluzeno_arrival){2, 0, PAFLUZENO_REQUEST, 2}, PAFLUZENO_NO_REFUSAL);
+    tell("request behind another", busy, (struct pafluzeno_arrival){1, 1, PAFLUZENO_REQUEST, 1}, PAFLUZENO_NO_REFUSAL);
+    tell("release", busy, (struct pafluzeno_arrival){1, 0, PAFLUZENO_RELEASE, 0}, PAFLUZENO_NO_REFUSAL);
+    tell("withdraw of the one who has", busy, (struct pafluzeno_arrival){1, 0, PAFLUZENO_WITHDRAW, 0}, PAFLUZENO_NO_REFUSAL);
+    tell("withdraw of the one who waits", busy, (struct pafluzeno_arrival){1, 2, PAFLUZENO_WITHDRAW, 0}, PAFLUZENO_NO_REFUSAL);
+    tell("no message, of stock 201", fresh, (struct pafluzeno_arrival){201, 12, 3, 0}, PAFLUZENO_BAD_FORM);
+    tell("stock 201", fresh, (struct pafluzeno_arrival){201, 0, PAFLUZENO_REQUEST, 1}, PAFLUZENO_BAD_STOCK);
+    tell("a line of 13", long_line, (struct pafluzeno_arrival){1, 0, PAFLUZENO_REQUEST, 1}, PAFLUZENO_OUT_OF_RANGE);
+    tell("station 12", fresh, (struct pafluzeno_arrival){1, 12, PAFLUZENO_REQUEST, 1}, PAFLUZENO_NO_SUCH_STATION);
+    tell("2 units of 1", fresh, (struct pafluzeno_arrival){1, 0, PAFLUZENO_REQUEST, 2}, PAFLUZENO_BAD_UNITS);
+    tell("a full line", full, (struct pafluzeno_arrival){1, 0, PAFLUZENO_REQUEST, 1}, PAFLUZENO_NO_PLACE);
     return 0;
 }

@@ -13,7 +13,7 @@ _Static_assert(sizeof(struct pafluzeno_tally) == 48, "the sums as the library la
 
 enum { ROOM = 300, STEPS = 4 };
 
-static const char *const words[] = {"request", "up", "down", "release"};
+static const char *const words[] = {"request", "up", "down", "release", "withdraw"};
 
 /* One station, one unit: it asks, its own arbiter grants, and it gives back. */
 static const struct pafluzeno_record done[STEPS] = {

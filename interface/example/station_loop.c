@@ -1,14 +1,16 @@
 /* A station's loop, for five stations in one process. Each has its own arbiter record, which it lends to the library for each message that
- * reaches it, and collects its quorum in ascending order. The radio is an array of lanes, first in first out, of which any that is not empty
- * may deliver next; here a fixed sequence of random numbers chooses. Written against pafluzeno.h alone. */
+ * reaches it, and collects its quorum in ascending order; now and then a batch is spoilt while its station collects, and it withdraws. The radio
+ * is an array of lanes, first in first out, of which any that is not empty may deliver next; here a fixed sequence of random numbers chooses.
+ * Written against pafluzeno.h alone. */
+#include <stdbool.h>
 #include <stdio.h>
 #include <stdlib.h>
 
 #include "../pafluzeno.h"
 
-enum { STATIONS = 5, STOCK = 2, JOBS = 200, LANE_PLACES = 4 };
+enum { STATIONS = 5, STOCK = 2, JOBS = 200, SPOILT_IN = 16, LANE_PLACES = 5 };
 
-enum kind { REQUEST, RELEASE, GRANT };
+enum kind { REQUEST, RELEASE, WITHDRAW, GRANT, GONE };
 
 struct message {
     enum kind kind;
@@ -20,7 +22,7 @@ struct lane {
     int len;
 };
 
-enum phase { IDLE, COLLECTING, HOLDING };
+enum phase { IDLE, COLLECTING, HOLDING, WITHDRAWING };
 
 struct station {
     struct pafluzeno_arbiter arbiter; /* what this station grants to others */
@@ -35,7 +37,7 @@ static struct station stations[STATIONS];
 static struct lane radio[STATIONS][STATIONS]; /* from, to */
 static uint16_t table[PAFLUZENO_MOST_QUORUMS];
 static size_t quorums;
-static unsigned in_use, most_in_use, waited;
+static unsigned in_use, most_in_use, waited, withdrawn;
 
 static void stop(const char *why, unsigned refusal)
 {
@@ -88,6 +90,17 @@ static void finish(int me)
         say(me, j, RELEASE, 0);
 }
 
+/* The batch is spoilt: RELEASE to the members that have granted, WITHDRAW to the one asked now. */
+static void withdraw(int me)
+{
+    struct station *s = &stations[me];
+    s->phase = WITHDRAWING;
+    withdrawn++;
+    for (int j = member_from(s, 0); j >= 0 && j < s->member; j = member_from(s, j + 1))
+        say(me, j, RELEASE, 0);
+    say(me, s->member, WITHDRAW, 0);
+}
+
 /* GRANT from the member asked: on to the next, or all have granted. Any other GRANT is dropped. */
 static void granted(int me, int from)
 {
@@ -108,16 +121,30 @@ static void granted(int me, int from)
         stop("more units in use than there are", 0);
 }
 
-/* The arbiter's part: the record is lent for one message, and GRANT is sent to the stations of the answer. */
+/* GONE: the member asked last has nothing of the request any more, and the station may begin again. */
+static void gone(int me)
+{
+    if (stations[me].phase == WITHDRAWING)
+        stations[me].phase = IDLE;
+}
+
+static uint8_t message_of(enum kind kind)
+{
+    return kind == REQUEST ? PAFLUZENO_REQUEST : kind == RELEASE ? PAFLUZENO_RELEASE : PAFLUZENO_WITHDRAW;
+}
+
+/* The arbiter's part: the record is lent for one message; GONE is sent to one that withdraws, and GRANT to the stations of the answer. */
 static void arbitrate(int me, int from, struct message m)
 {
     struct pafluzeno_arrival arrival = {
-        .stock = STOCK, .station = (size_t)from, .request = m.kind == REQUEST, .units = m.units};
+        .stock = STOCK, .station = (size_t)from, .message = message_of(m.kind), .units = m.units};
     struct pafluzeno_reply reply = pafluzeno_tell(&stations[me].arbiter, arrival);
     if (reply.refusal != PAFLUZENO_NO_REFUSAL)
         stop("the arbiter refuses", reply.refusal);
     if (m.kind == REQUEST && !(reply.granted >> from & 1))
         waited++;
+    if (m.kind == WITHDRAW)
+        say(me, from, GONE, 0);
     for (int s = 0; s < STATIONS; s++)
         if (reply.granted >> s & 1)
             say(me, s, GRANT, 0);
@@ -132,11 +159,13 @@ static void receive(int me, int from)
         lane->places[i] = lane->places[i + 1];
     if (m.kind == GRANT)
         granted(me, from);
+    else if (m.kind == GONE)
+        gone(me);
     else
         arbitrate(me, from, m);
 }
 
-/* One thing that can happen next, chosen by chance: a message is delivered, a station begins or finishes. Whether there was any. */
+/* One thing that can happen next, chosen by chance: a message is delivered, a station begins, finishes or withdraws. Whether there was any. */
 static bool something_happens(void)
 {
     unsigned possible = 0;
@@ -149,6 +178,8 @@ static bool something_happens(void)
             kind = 1, a = i;
         if (stations[i].phase == HOLDING && chance(++possible) == 0)
             kind = 2, a = i;
+        if (stations[i].phase == COLLECTING && chance(SPOILT_IN) == 0 && chance(++possible) == 0)
+            kind = 3, a = i;
     }
     if (possible == 0)
         return false;
@@ -156,8 +187,10 @@ static bool something_happens(void)
         receive(a, b);
     else if (kind == 1)
         begin(a);
-    else
+    else if (kind == 2)
         finish(a);
+    else
+        withdraw(a);
     return true;
 }
 
@@ -186,6 +219,6 @@ int main(void)
             stop("a station is left waiting", 0);
         jobs += stations[i].jobs;
     }
-    printf("batches=%d waited=%u most in use=%u in use=%u steps=%lu\n", jobs, waited, most_in_use, in_use, steps);
+    printf("batches=%d withdrawn=%u waited=%u most in use=%u in use=%u steps=%lu\n", jobs, withdrawn, waited, most_in_use, in_use, steps);
     return 0;
 }

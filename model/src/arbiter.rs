@@ -24,6 +24,7 @@ pub struct Arbiter {
 pub enum Sent {
     Request(usize),
     Release,
+    Withdraw,
 }
 
 impl Arbiter {
@@ -48,8 +49,9 @@ impl Arbiter {
     }
 
     /// "REQUEST(h) joins the end of j's line. RELEASE sets s's granted units at j to 0. Then, while the line's first entry
-    /// fits [...], it leaves the line, its units become that station's granted units". Answers the stations granted, in
-    /// order, or 14 where the line would pass its limit, if only for a moment.
+    /// fits [...], it leaves the line, its units become that station's granted units". And: "On WITHDRAW the arbiter drops
+    /// every line entry of that station and its grant". Answers the stations granted, in order, or 14 where the line would
+    /// pass its limit, if only for a moment.
     pub fn take(
         &mut self,
         n: usize,
@@ -60,6 +62,10 @@ impl Arbiter {
         match sent {
             Sent::Request(units) => self.line.push(Entry { station, units }),
             Sent::Release => self.granted[station] = 0,
+            Sent::Withdraw => {
+                self.line.retain(|entry| entry.station != station);
+                self.granted[station] = 0;
+            }
         }
         if self.line.len() > MOST_WAITING {
             return Err(14);
@@ -93,7 +99,7 @@ pub fn mask(set: &[bool]) -> u16 {
 }
 
 /// "Its refusals, in order, are 2, 19 (the same limits with n = 12), 8 (station above 11), 10 (REQUEST only), 14 (REQUEST
-/// with 12 entries in line); each answers the empty set and changes nothing."
+/// with 12 entries in line); each answers the empty set and changes nothing." WITHDRAW can meet the first three only.
 fn granted_by(
     arbiter: &mut Arbiter,
     k: usize,
@@ -117,7 +123,8 @@ fn granted_by(
     arbiter.take(MOST_STATIONS, k, station, sent)
 }
 
-/// "That call applies the arbiter's part of Up and answers with the set of stations granted."
+/// "That call applies the arbiter's part of Up and answers with the set of stations granted." GONE is in no such set: it
+/// "always goes to the sender".
 pub fn lent(before: &Arbiter, k: usize, station: usize, sent: Sent) -> Lent {
     let mut after = before.clone();
     let mut granted = vec![false; MOST_STATIONS];
@@ -135,6 +142,35 @@ pub fn lent(before: &Arbiter, k: usize, station: usize, sent: Sent) -> Lent {
         Err(refusal) => Lent {
             refusal,
             granted,
+            after: before.clone(),
+        },
+    }
+}
+
+/// From C a message is a number, and its units mean something in a REQUEST only. Nothing where the number stands for no
+/// message.
+pub fn sent(message: u8, units: usize) -> Option<Sent> {
+    match message {
+        0 => Some(Sent::Release),
+        1 => Some(Sent::Request(units)),
+        2 => Some(Sent::Withdraw),
+        _ => None,
+    }
+}
+
+/// The lent call from C. A number that stands for no message is 15, before anything else is tested, and changes nothing.
+pub fn lent_by_number(
+    before: &Arbiter,
+    k: usize,
+    station: usize,
+    message: u8,
+    units: usize,
+) -> Lent {
+    match sent(message, units) {
+        Some(sent) => lent(before, k, station, sent),
+        None => Lent {
+            refusal: 15,
+            granted: vec![false; MOST_STATIONS],
             after: before.clone(),
         },
     }

@@ -1,7 +1,8 @@
-//! A plain model of document 01, written from the document alone, for comparison with the verified code. It is meant
-//! to be obviously right and nothing else: growable lists, sets written out, and brute force where that is small.
+//! A plain model of document 01 and of document 02's point 1, written from the documents alone, for comparison with the
+//! verified code. It is meant to be obviously right and nothing else: growable lists, sets written out, and brute force
+//! where that is small.
 //!
-//! A refusal is document 01's number, and 0 where nothing is refused.
+//! A refusal is the documents' number, and 0 where nothing is refused.
 
 pub mod arbiter;
 pub mod calls;
@@ -11,5 +12,6 @@ pub mod page;
 pub mod random;
 pub mod ready;
 pub mod rng;
+pub mod steps;
 pub mod table;
 pub mod text;

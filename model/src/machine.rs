@@ -1,4 +1,5 @@
-//! The plain machine's calls. "A call tests 19, 8, then the rest of its own, upward."
+//! The plain machine's calls. "A call tests 19, 8, then the rest of its own, upward." Of Withdraw that is 20, "after 8 and
+//! before 14".
 
 pub mod record;
 
@@ -60,8 +61,8 @@ fn send_up(r: &mut Record, s: usize, j: usize, message: Message) -> Result<(), u
     Ok(())
 }
 
-fn send_down(r: &mut Record, s: usize, j: usize) -> Result<(), usize> {
-    r.down[s][j].push_back(Message::Grant);
+fn send_down(r: &mut Record, s: usize, j: usize, message: Message) -> Result<(), usize> {
+    r.down[s][j].push_back(message);
     if r.down[s][j].len() > MOST_DOWN {
         return Err(14);
     }
@@ -93,6 +94,8 @@ pub fn request(before: &Record, s: usize, quorum: usize, h: usize) -> Answer {
 }
 
 /// Up(s, j) "takes the oldest message"; the arbiter does its part; "and GRANT goes down the lane from j to that station".
+/// On WITHDRAW the arbiter "sends GONE down to it, then serves its line"; the sender has left that line, so that no GRANT
+/// comes behind its GONE.
 pub fn up(before: &Record, s: usize, j: usize) -> Answer {
     answer(before, |r| {
         exists(r, s)?;
@@ -101,24 +104,33 @@ pub fn up(before: &Record, s: usize, j: usize) -> Answer {
             None => return Err(13),
             Some(Message::Request(h)) => Sent::Request(h),
             Some(Message::Release) => Sent::Release,
-            Some(Message::Grant) => unreachable!("the record is in range"),
+            Some(Message::Withdraw) => Sent::Withdraw,
+            Some(Message::Grant | Message::Gone) => unreachable!("the record is in range"),
         };
+        if sent == Sent::Withdraw {
+            send_down(r, s, j, Message::Gone)?;
+        }
         let (n, k) = (r.n, r.stock);
         for station in r.arbiters[j].take(n, k, s, sent)? {
-            send_down(r, station, j)?;
+            send_down(r, station, j, Message::Grant)?;
         }
         Ok((0, 0))
     })
 }
 
 /// Down(s, j) "takes the oldest message. If s is collecting from j: with a higher member left, REQUEST(h) goes up to the
-/// lowest such member; otherwise s holds and h units are entered. In every other case GRANT is dropped."
+/// lowest such member; otherwise s holds and h units are entered. In every other case GRANT is dropped." And: "A
+/// withdrawing station drops GRANT, and GONE makes it idle; any other station drops GONE."
 pub fn down(before: &Record, s: usize, j: usize) -> Answer {
     answer(before, |r| {
         exists(r, s)?;
         exists(r, j)?;
-        if r.down[s][j].pop_front().is_none() {
-            return Err(13);
+        let message = r.down[s][j].pop_front().ok_or(13usize)?;
+        if message == Message::Gone {
+            if r.stations[s] == Phase::Withdrawing {
+                r.stations[s] = Phase::Idle;
+            }
+            return Ok((0, 0));
         }
         match r.stations[s] {
             Phase::Collecting {
@@ -160,6 +172,24 @@ pub fn release(before: &Record, s: usize) -> Answer {
         }
         r.stations[s] = Phase::Idle;
         Ok((0, units))
+    })
+}
+
+/// "RELEASE goes to all members that have already granted (those below the member now approached), WITHDRAW to the member
+/// now approached, and the station is withdrawing." A record made by hand may approach a station that is no member;
+/// WITHDRAW goes there all the same.
+pub fn withdraw(before: &Record, s: usize) -> Answer {
+    answer(before, |r| {
+        exists(r, s)?;
+        let Phase::Collecting { quorum, member, .. } = r.stations[s] else {
+            return Err(20);
+        };
+        for j in members(r.table[quorum]).into_iter().filter(|&j| j < member) {
+            send_up(r, s, j, Message::Release)?;
+        }
+        send_up(r, s, member, Message::Withdraw)?;
+        r.stations[s] = Phase::Withdrawing;
+        Ok((0, 0))
     })
 }
 

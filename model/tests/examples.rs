@@ -1,6 +1,6 @@
-//! What the programs `cases` and `runs` are recorded to print is what the model prints.
+//! What the programs `cases`, `runs` and `withdrawals` are recorded to print is what the model prints.
 
-use model::examples::{cases, runs};
+use model::examples::{cases, runs, withdrawals};
 use std::fs;
 use std::path::Path;
 
@@ -25,4 +25,9 @@ fn cases_as_recorded() {
 #[test]
 fn runs_as_recorded() {
     compare("runs", &runs::output());
+}
+
+#[test]
+fn withdrawals_as_recorded() {
+    compare("withdrawals", &withdrawals::output());
 }

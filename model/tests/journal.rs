@@ -35,17 +35,23 @@ const _: () = {
 /// The runs met everything that a run can meet, and nothing else: a lane or line never comes to its limit (14), and the
 /// record stays in range (19).
 fn assert_met(met: &Met, at_least: usize) {
-    for refusal in [0, 8, 9, 10, 11, 12, 13] {
+    for refusal in [0, 8, 9, 10, 11, 12, 13, 20] {
         let seen = met.refusals.get(&refusal).copied().unwrap_or(0);
         assert!(seen >= at_least, "{refusal} was seen {seen} times: {met:?}");
     }
-    assert_eq!(met.refusals.len(), 7, "{met:?}");
+    assert_eq!(met.refusals.len(), 8, "{met:?}");
     assert!(
         met.entered >= 10 * at_least && met.left >= 10 * at_least,
         "{met:?}"
     );
     assert!(
         met.waited >= 10 * at_least && met.served_together >= at_least,
+        "{met:?}"
+    );
+    assert!(
+        met.withdrawn >= 10 * at_least
+            && met.left_line >= at_least
+            && met.served_others >= at_least,
         "{met:?}"
     );
 }

@@ -1,142 +1,14 @@
 //! The lent arbiter call of the static library against the model's.
 
-use model::arbiter::{lent, mask, Arbiter, Entry, Lent, Sent};
+mod lent {
+    pub mod compare;
+    pub mod records;
+}
+
+use lent::compare::{compare, Arrival, Met};
+use lent::records::{arrival, damage, in_range, stock};
 use model::rng::Rng;
-use pafluzeno::header;
-use std::collections::BTreeMap;
-
-/// The library's record in the model's words. What stands beyond the line's length does not belong to it; a length above
-/// 12 is a line that is too long here.
-fn read(record: &pafluzeno::Arbiter) -> Arbiter {
-    let places = record.line.iter().map(|e| Entry {
-        station: e.station.into(),
-        units: e.units.into(),
-    });
-    let beyond = std::iter::repeat(Entry {
-        station: 0,
-        units: 1,
-    });
-    Arbiter {
-        granted: record.granted.iter().map(|&units| units.into()).collect(),
-        line: places.chain(beyond).take(record.len.into()).collect(),
-    }
-}
-
-/// What the calls met.
-#[derive(Default, Debug)]
-struct Met {
-    refusals: BTreeMap<usize, usize>,
-    /// Calls that granted to one station, and to more.
-    granted_one: usize,
-    granted_more: usize,
-    /// Requests that had to wait.
-    waited: usize,
-}
-
-fn note(met: &mut Met, before: &Arbiter, answer: &Lent) {
-    *met.refusals.entry(answer.refusal).or_insert(0) += 1;
-    match answer.granted.iter().filter(|&&g| g).count() {
-        0 => {}
-        1 => met.granted_one += 1,
-        _ => met.granted_more += 1,
-    }
-    met.waited += usize::from(answer.after.line.len() > before.line.len());
-}
-
-/// Refusal and granted stations, of a refused call too, and the record afterwards. The units of a RELEASE mean nothing.
-fn whole_answer(
-    record: &pafluzeno::Arbiter,
-    k: usize,
-    station: usize,
-    sent: Sent,
-) -> (usize, u16, pafluzeno::Arbiter) {
-    let (request, units) = match sent {
-        Sent::Request(units) => (true, units),
-        Sent::Release => (false, k.wrapping_add(1)),
-    };
-    let message = header::Arrival {
-        stock: k,
-        station,
-        request,
-        units,
-    };
-    let mut after = *record;
-    let reply = header::tell(&mut after, message);
-    (reply.refusal.into(), reply.granted, after)
-}
-
-/// One call on the library's record, compared with the model's call on the same content.
-fn compare(
-    place: &str,
-    record: &mut pafluzeno::Arbiter,
-    k: usize,
-    station: usize,
-    sent: Sent,
-    met: &mut Met,
-) {
-    let before = *record;
-    let shown = || format!("{place}: k = {k}, station {station}, {sent:?} on {before:?}");
-    let theirs = match sent {
-        Sent::Request(units) => pafluzeno::request(record, k, station, units),
-        Sent::Release => pafluzeno::release(record, k, station),
-    };
-    let ours = lent(&read(&before), k, station, sent);
-    let answer = (ours.refusal, mask(&ours.granted), *record);
-    let whole = whole_answer(&before, k, station, sent);
-    assert_eq!(whole, answer, "{}", shown());
-    match theirs {
-        Ok(granted) => {
-            assert_eq!((0, granted), (answer.0, answer.1), "{}", shown());
-            assert_eq!(read(record), ours.after, "{}", shown());
-        }
-        Err(refusal) => {
-            assert_eq!(usize::from(refusal.number()), ours.refusal, "{}", shown());
-            // Every byte, the unused places too.
-            assert_eq!(*record, before, "{}", shown());
-        }
-    }
-    note(met, &read(&before), &ours);
-}
-
-/// Mostly one of 1 to `limit`, now and then one around it or one that is huge.
-fn number(rng: &mut Rng, limit: usize) -> usize {
-    let any = rng.draw() as usize;
-    match rng.below(40) {
-        0 => 0,
-        1 => limit + 1,
-        2 => rng.pick(&[
-            255,
-            256,
-            257,
-            65536,
-            1 << 32,
-            (1 << 32) + 1,
-            usize::MAX,
-            any,
-        ]),
-        _ => rng.between(1, limit),
-    }
-}
-
-fn message(rng: &mut Rng, k: usize, requests: usize) -> (usize, Sent) {
-    let station = number(rng, 12).wrapping_sub(1);
-    if rng.percent(requests) {
-        let small = k.min(4);
-        let limit = rng.pick(&[k, k, small]);
-        let units = number(rng, limit);
-        return (station, Sent::Request(units));
-    }
-    (station, Sent::Release)
-}
-
-fn assert_seen(met: &Met, refusals: &[usize], at_least: usize) {
-    let keys: Vec<usize> = met.refusals.keys().copied().collect();
-    assert_eq!(keys, refusals, "{met:?}");
-    assert!(
-        met.refusals.values().all(|&seen| seen >= at_least),
-        "{met:?}"
-    );
-}
+use pafluzeno::header::{RELEASE, REQUEST, WITHDRAW};
 
 /// Messages one after the other, from the empty record.
 #[test]
@@ -144,77 +16,29 @@ fn long_lists() {
     let mut met = Met::default();
     for seed in 0..1_500 {
         let mut rng = Rng::new(seed);
-        let k = if rng.percent(50) {
-            rng.between(1, 200)
-        } else {
-            rng.between(1, 6)
-        };
+        let k = stock(&mut rng);
         let requests = rng.pick(&[35, 50, 70]);
         let mut record = pafluzeno::Arbiter::default();
         for i in 0..200 {
-            let (station, sent) = message(&mut rng, k, requests);
-            compare(
-                &format!("seed {seed}, message {i}"),
-                &mut record,
-                k,
-                station,
-                sent,
-                &mut met,
-            );
+            let message = arrival(&mut rng, k, requests);
+            let place = format!("seed {seed}, message {i}");
+            compare(&place, &mut record, message, &mut met);
         }
     }
-    assert_seen(&met, &[0, 8, 10, 14], 1_000);
+    met.assert_seen(&[0, 8, 10, 14, 15], 1_000);
     assert!(
         met.granted_one >= 10_000 && met.granted_more >= 1_000,
         "{met:?}"
     );
     assert!(met.waited >= 10_000, "{met:?}");
-}
-
-fn random_entry(rng: &mut Rng, k: usize) -> pafluzeno::Entry {
-    pafluzeno::Entry {
-        station: rng.below(12) as u8,
-        units: rng.between(1, k) as u8,
-    }
-}
-
-/// A record in range, made by hand: the grants may add up to more than k, and a station may wait several times. The unused
-/// places hold anything.
-fn in_range(rng: &mut Rng, k: usize) -> pafluzeno::Arbiter {
-    let mut record = pafluzeno::Arbiter::default();
-    let granted = rng.pick(&[0, 10, 50]);
-    for units in &mut record.granted {
-        if rng.percent(granted) {
-            *units = rng.between(0, k) as u8;
-        }
-    }
-    record.len = rng.pick(&[0, 1, 2, 5, 11, 12]);
-    for (i, entry) in record.line.iter_mut().enumerate() {
-        *entry = random_entry(rng, k);
-        if i >= usize::from(record.len) {
-            *entry = pafluzeno::Entry {
-                station: rng.byte(),
-                units: rng.byte(),
-            };
-        }
-    }
-    record
-}
-
-/// One thing in it that may be out of range. In an unused place it is not.
-fn damage(rng: &mut Rng, k: usize, record: &mut pafluzeno::Arbiter) {
-    let place = rng.below(12);
-    match rng.below(6) {
-        0 => record.len = rng.between(13, 255) as u8,
-        1 => record.granted[place] = rng.between(k.min(254) + 1, 255) as u8,
-        2 => record.line[place].station = rng.between(12, 255) as u8,
-        3 => record.line[place].units = 0,
-        4 => record.line[place].units = rng.between(k.min(254) + 1, 255) as u8,
-        _ => {
-            record.granted.fill_with(|| rng.byte());
-            record.len = rng.byte();
-        }
-    }
+    assert!(
+        met.left_line >= 5_000 && met.left_line_more >= 5_000,
+        "{met:?}"
+    );
+    assert!(
+        met.gave_back >= 5_000 && met.served_others >= 2_000,
+        "{met:?}"
+    );
 }
 
 /// Records made by hand, in range and out of it, with good and bad numbers.
@@ -223,37 +47,38 @@ fn by_hand() {
     let mut met = Met::default();
     for seed in 0..60_000 {
         let mut rng = Rng::new(1_000_000 + seed);
-        let fair = if rng.percent(50) {
-            rng.between(1, 200)
-        } else {
-            rng.between(1, 6)
-        };
+        let fair = stock(&mut rng);
         let mut record = in_range(&mut rng, fair);
         if rng.percent(30) {
             damage(&mut rng, fair, &mut record);
         }
         let any = rng.draw() as usize;
         let wrong = rng.pick(&[0, 201, 255, 256, 256 + fair, 1 << 32, usize::MAX, any]);
-        let k = if rng.percent(5) { wrong } else { fair };
-        let (station, sent) = message(&mut rng, fair, 60);
-        compare(
-            &format!("seed {seed}"),
-            &mut record,
-            k,
-            station,
-            sent,
-            &mut met,
-        );
+        let mut message = arrival(&mut rng, fair, 60);
+        if rng.percent(5) {
+            message.stock = wrong;
+        }
+        compare(&format!("seed {seed}"), &mut record, message, &mut met);
     }
-    assert_seen(&met, &[0, 2, 8, 10, 14, 19], 500);
+    met.assert_seen(&[0, 2, 8, 10, 14, 15, 19], 500);
     assert!(
         met.granted_one >= 5_000 && met.granted_more >= 500,
         "{met:?}"
     );
     assert!(met.waited >= 5_000, "{met:?}");
+    assert!(met.left_line >= 500 && met.left_line_more >= 300, "{met:?}");
+    assert!(met.gave_back >= 500 && met.served_others >= 500, "{met:?}");
 }
 
-/// One record in which the later refusals could be given too: the first of them is, in the order 2, 19, 8, 10, 14.
+/// That one call is so refused; 0 is not refused.
+fn assert_refusal(refusal: usize, record: pafluzeno::Arbiter, arrival: Arrival) {
+    let mut met = Met::default();
+    compare("order", &mut record.clone(), arrival, &mut met);
+    met.assert_seen(&[refusal], 1);
+}
+
+/// One record in which the later refusals could be given too: the first of them is, in the order 2, 19, 8, 10, 14. What is
+/// no message is 15 before all of them, and the last two are a REQUEST's alone.
 #[test]
 fn order() {
     let mut full = pafluzeno::Arbiter {
@@ -275,19 +100,69 @@ fn order() {
         (10, full, 200, 11, 201),
         (14, full, 200, 11, 200),
     ];
-    for (refusal, record, k, station, units) in rows {
-        let mut met = Met::default();
-        compare(
-            "order",
-            &mut record.clone(),
-            k,
+    for (refusal, record, stock, station, units) in rows {
+        let told = |message| Arrival {
+            stock,
             station,
-            Sent::Request(units),
-            &mut met,
-        );
-        assert_seen(&met, &[refusal], 1);
+            message,
+            units,
+        };
+        assert_refusal(refusal, record, told(REQUEST));
+        let of_all = if refusal < 10 || refusal == 19 {
+            refusal
+        } else {
+            0
+        };
+        assert_refusal(of_all, record, told(RELEASE));
+        assert_refusal(of_all, record, told(WITHDRAW));
+        for none in [3, 4, 127, 128, 254, 255] {
+            assert_refusal(15, record, told(none));
+        }
     }
-    let mut met = Met::default();
-    compare("order", &mut full, 200, 11, Sent::Release, &mut met);
-    assert_seen(&met, &[0], 1);
+}
+
+/// Every number of a byte, on one record that all could change: 0, 1 and 2 are messages, and nothing else is.
+#[test]
+fn every_number() {
+    let mut record = pafluzeno::Arbiter::default();
+    record.granted[3] = 2;
+    record.line[0] = pafluzeno::Entry {
+        station: 1,
+        units: 1,
+    };
+    record.len = 1;
+    for message in 0..=255 {
+        let told = Arrival {
+            stock: 2,
+            station: 3,
+            message,
+            units: 2,
+        };
+        assert_refusal(if message <= 2 { 0 } else { 15 }, record, told);
+    }
+}
+
+/// Worked out by hand: station 3 has both units, and 1, 3, 5 and 3 again wait for one each. Its withdrawal takes its grant
+/// and its two places, and both others are served; GONE, which goes to station 3, is not in the set.
+#[test]
+fn a_withdrawal() {
+    let mut record = pafluzeno::Arbiter::default();
+    record.granted[3] = 2;
+    record.len = 4;
+    for (i, station) in [1, 3, 5, 3].into_iter().enumerate() {
+        record.line[i] = pafluzeno::Entry { station, units: 1 };
+    }
+    let told = Arrival {
+        stock: 2,
+        station: 3,
+        message: WITHDRAW,
+        units: 0,
+    };
+    compare("by hand", &mut record.clone(), told, &mut Met::default());
+    assert_eq!(pafluzeno::withdraw(&mut record, 2, 3), Ok(2 + 32));
+    assert_eq!(record.granted, [0, 1, 0, 0, 0, 1, 0, 0, 0, 0, 0, 0]);
+    assert_eq!(record.len, 0);
+    // Nothing is there of it any more: it may withdraw again, and nothing changes.
+    assert_eq!(pafluzeno::withdraw(&mut record, 2, 3), Ok(0));
+    assert_eq!(record.granted, [0, 1, 0, 0, 0, 1, 0, 0, 0, 0, 0, 0]);
 }

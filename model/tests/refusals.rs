@@ -1,10 +1,9 @@
-//! Every row of document 01's table of refusals, on the model itself, and what a refused call leaves as it was.
+//! Every row of document 01's table of refusals but for the machine's calls, on the model itself, and what a refused call
+//! leaves as it was.
 
-use model::arbiter::{lent, Arbiter, Entry, Sent};
-use model::examples::by_hand::lane;
-use model::examples::script::call;
+use model::arbiter::{lent, lent_by_number, Arbiter, Entry, Sent};
 use model::machine::open;
-use model::machine::record::{Message, Record};
+use model::machine::record::Record;
 use model::page::page;
 use model::ready::{cube, singleton, uniform, write};
 use model::table::{check, scratch_after};
@@ -36,43 +35,6 @@ fn scratch_after_an_answer() {
     for beyond in [0, 1, 904] {
         let expected = [vec![0; 4096], vec![9; beyond]].concat();
         assert_eq!(scratch_after(&vec![9; 4096 + beyond]), expected);
-    }
-}
-
-fn refusal(record: &Record, text: &str) -> usize {
-    let answer = call(record, text);
-    if answer.refusal != 0 {
-        assert_eq!((answer.entered, answer.left), (0, 0), "{text}");
-        assert_eq!(&answer.record, record, "{text}");
-    }
-    answer.refusal
-}
-
-#[test]
-fn rows_8_to_14_and_19() {
-    let p2 = Record::fresh(3, 1, &[3, 5, 6]);
-    for text in [
-        "request(3,0,1)",
-        "up(3,0)",
-        "up(0,3)",
-        "down(0,3)",
-        "release(3)",
-    ] {
-        assert_eq!(refusal(&p2, text), 8, "{text}");
-    }
-    assert_eq!(refusal(&Record::fresh(1, 1, &[1]), "request(0,1,1)"), 9);
-    let two_units = Record::fresh(1, 2, &[1]);
-    assert_eq!(refusal(&two_units, "request(0,0,3)"), 10);
-    assert_eq!(refusal(&two_units, "request(0,0,0)"), 10);
-    let running = call(&p2, "request(0,0,1)").record;
-    assert_eq!(refusal(&running, "request(0,1,1)"), 11);
-    assert_eq!(refusal(&p2, "release(0)"), 12);
-    assert_eq!(refusal(&p2, "up(0,0)"), 13);
-    assert_eq!(refusal(&p2, "down(0,0)"), 13);
-    let full = p2.with_up(0, 0, lane(4, Message::Release));
-    assert_eq!(refusal(&full, "request(0,0,1)"), 14);
-    for text in ["request(0,0,1)", "up(0,0)", "down(0,0)", "release(0)"] {
-        assert_eq!(refusal(&Record::empty(), text), 19, "{text}");
     }
 }
 
@@ -130,6 +92,10 @@ fn row_15_of_lines() {
     assert_eq!(read_line(b"a=b=1\n", b"a=b"), None);
     assert_eq!(read_line(b"a\nb=1\n", b"a\nb"), None);
     assert_eq!(read_line(b"do=up\n", b"do"), Some((&b"up"[..], &b""[..])));
+    assert_eq!(
+        read_line(b"do=withdraw\n", b"do"),
+        Some((&b"withdraw"[..], &b""[..]))
+    );
     assert_eq!(read_line(b"do=1\n", b"do"), None);
     assert_eq!(read_line(b"with=up\n", b"with"), None);
 }
@@ -139,6 +105,8 @@ fn row_15_of_records() {
     let bad = [
         noted(Do::Release, 1, 0),
         noted(Do::Release, 0, 1),
+        noted(Do::Withdraw, 1, 0),
+        noted(Do::Withdraw, 0, 1),
         noted(Do::Up, 0, 1),
         noted(Do::Request, 65536, 1),
     ];
@@ -156,6 +124,7 @@ fn row_15_of_records() {
         GOOD,
         noted(Do::Request, 65535, 0),
         noted(Do::Release, 0, 0),
+        noted(Do::Withdraw, 0, 0),
     ];
     for record in good {
         let text = record.lines() + "more";
@@ -196,7 +165,7 @@ fn rows_17_and_18() {
     assert_eq!(write(uniform(12, 1), &mut []), (18, 0));
 }
 
-/// The lent arbiter call's own order: 2, 19, 8, 10, 14.
+/// The lent arbiter call's own order: 15 where the number is no message, 2, 19, 8, 10, 14. The last two are a REQUEST's.
 #[test]
 fn lent_arbiter_order() {
     let entry = Entry {
@@ -220,6 +189,18 @@ fn lent_arbiter_order() {
         let answer = lent(before, k, station, Sent::Request(units));
         assert_eq!(answer.refusal, refusal);
         assert_eq!((answer.granted, &answer.after), (vec![false; 12], before));
+        let of_all = if matches!(refusal, 10 | 14) {
+            0
+        } else {
+            refusal
+        };
+        for sent in [Sent::Release, Sent::Withdraw] {
+            assert_eq!(lent(before, k, station, sent).refusal, of_all);
+        }
+        for none in 3..=255 {
+            let answer = lent_by_number(before, k, station, none, units);
+            assert_eq!((answer.refusal, &answer.after), (15, before));
+            assert_eq!(answer.granted, [false; 12]);
+        }
     }
-    assert_eq!(lent(&full, 1, 11, Sent::Release).refusal, 0);
 }

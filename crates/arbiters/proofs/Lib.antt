@@ -1,4 +1,5 @@
 pub mod ServingLine
+pub mod DroppingEntries
 pub mod ArrivingMessage
 pub mod TellingArbiter
 pub mod LendingArbiter

@@ -24,8 +24,9 @@ use Rattle.plain.specs.Lanes.{linePlaces, keeps, passes}
 use Rattle.plain.specs.State.{Arbiter as PlainArbiter}
 use Rattle.plain.specs.declared.Entry.{Entry}
 use Rattle.plain.specs.declared.Message.{Message}
-use Rattle.plain.specs.declared.Message.the-variants.{Request, Release, Grant}
+use Rattle.plain.specs.declared.Message.the-variants.{Request, Release, Grant, Withdraw, Gone}
 use Rattle.plain.proofs.ArbitersInRange.{arbiter-facts}
+use Rattle.plain.proofs.Dropping.{keeps-without}
 use Rattle.plain.proofs.LanesInRange.{keeps-more, keeps-all, keeps-short}
 use Rattle.plain.proofs.Serving.{serve-splits}
 use Rattle.records.specs.View.{noEntry, arbiterOf}
@@ -81,7 +82,10 @@ module _ (n : ℕ) where
       and-both (le-leb n mostStations (servable-few a e))
       (keeps-more linePlaces (isOf n) (a .line) (record { station = s; units = h } ∷ []) (servable-line a e) (and-both (lt-ltb s n l) refl) room)
   arrived-servable Release s a l e room = e
+  arrived-servable Withdraw s a l e room =
+      and-both (le-leb n mostStations (servable-few a e)) (keeps-without s linePlaces (isOf n) (a .line) (servable-line a e))
   arrived-servable Grant s a l e room = e
+  arrived-servable Gone s a l e room = e
 
   -- and that of an arbiter in range can be served
   all-of : (stock : Units) (line : List Entry) → all (entryIn n stock) line ≡ true → all (isOf n) line ≡ true

@@ -15,23 +15,25 @@ use Rattle.plain.specs.Lanes.{linePlaces, passes}
 use Rattle.plain.specs.State.{Arbiter as PlainArbiter}
 use Rattle.plain.specs.declared.Entry.{Entry}
 use Rattle.plain.specs.declared.Message.{Message}
-use Rattle.plain.specs.declared.Message.the-variants.{Request, Release}
+use Rattle.plain.specs.declared.Message.the-variants.{Request, Release, Withdraw}
 use Rattle.records.specs.View.{arbiterOf}
 use Rattle.records.specs.declared.Arbiter.{Arbiter}
 use Rattle.arbiters.specs.Telling.{lineFull}
 use Rattle.arbiters.specs.declared.Reply.{Reply}
 use Rattle.arbiters.specs.declared.Upward.{Upward}
-use Rattle.arbiters.specs.declared.Upward.the-variants.{Request as UpRequest, Release as UpRelease}
+use Rattle.arbiters.specs.declared.Upward.the-variants.{Request as UpRequest, Release as UpRelease, Withdraw as UpWithdraw}
 
--- the message that a station sends up
+-- the message that a station sends up; "The lent arbiter call takes WITHDRAW too"
 abbrev pub sentUp : Upward → Message
 sentUp (UpRequest h) = Request (unitsOf h)
 sentUp UpRelease = Release
+sentUp UpWithdraw = Withdraw
 
 -- "10 (REQUEST only)": units outside 1..k
 abbrev pub badUnits : Units → Upward → Bool
 badUnits stock (UpRequest h) = not (requestIn stock (unitsOf h))
 badUnits stock UpRelease = false
+badUnits stock UpWithdraw = false
 
 -- whether station t is among those granted
 abbrev pub isGranted : List Entry → ℕ → Bool
@@ -51,7 +53,8 @@ pub record Lending : Type 0 where
 abbrev pub turnedAway : PlainArbiter → ℕ → Lending
 turnedAway a r = record { refusal = r; granted = 0; arbiter = a }
 
--- "That call applies the arbiter's part of Up", on n = 12
+-- "That call applies the arbiter's part of Up", on n = 12; on WITHDRAW too it "still answers the stations granted; GONE always goes to the
+-- sender"
 abbrev pub lentAs : Units → ℕ → Message → PlainArbiter → Lending
 lentAs stock s m a =
     record {

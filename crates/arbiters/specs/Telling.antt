@@ -41,7 +41,7 @@ lineFull = 14
 abbrev pub tellingTests : ℕ → ℕ → Message → PlainArbiter → List Test
 tellingTests n s m a = 19 when not (servable n a) ∷ 8 when leb n s ∷ lineFull when passes linePlaces (arrived m s a .line) ∷ []
 
--- the message arrives (a GRANT, which no station sends up, changes nothing), and the line is served
+-- the message arrives (a GRANT or a GONE, which no station sends up, changes nothing), and the line is served
 abbrev pub toldAs : ℕ → Units → ℕ → Message → PlainArbiter → Telling
 toldAs n stock s m a = record { refusal = 0; arbiter = served n stock (arrived m s a) .arbiter; grants = served n stock (arrived m s a) .grants }
 

@@ -9,6 +9,7 @@ ghost use Rattle.plain.specs.Lanes.{linePlaces, passes};
 ghost use Rattle.quorum.specs.Limits.{mostStations};
 ghost use Rattle.records.specs.View.{noEntry, arbiterOf};
 ghost use Rattle.arbiters.specs.Telling.{isOf, servable, untold, telling, toldOf};
+use crate::dropping;
 use crate::service;
 use plain::Entry;
 use plain::Message;
@@ -76,7 +77,7 @@ fn refuse(a: Arbiter, refusal: u8) -> Delivery
     }
 }
 
-// REQUEST joins the line, unless that is full; RELEASE clears the station's units.
+// REQUEST joins the line, unless that is full; RELEASE clears the station's units; WITHDRAW clears them and drops its entries.
 fn arrive(a: Arbiter, s: usize, m: Message) -> Arrived
     requires { ⌜ (s < mostStations) × (a .len ≤ linePlaces) ⌝ }
     ensures full { λ r. ⌜ ((n : ℕ) → r .full ≡ passes linePlaces (arrived m s (arbiterOf n a) .line)) ⌝ }
@@ -114,6 +115,25 @@ fn arrive(a: Arbiter, s: usize, m: Message) -> Arrived
             }
         }
         Message::Grant => Arrived {
+            full: false,
+            arbiter: a,
+        },
+        Message::Withdraw => {
+            let line = a.line;
+            let dropped = dropping::without(line, a.len as usize, s);
+            let rest = dropped.line;
+            let mut granted = a.granted;
+            granted[s] = units::no_units();
+            Arrived {
+                full: false,
+                arbiter: Arbiter {
+                    granted,
+                    len: dropped.len,
+                    line: rest,
+                },
+            }
+        }
+        Message::Gone => Arrived {
             full: false,
             arbiter: a,
         },

@@ -116,5 +116,6 @@ pub fn settle(a: Arbiter, i: Incoming) -> Settled
             deliver_lent(a, stock, s, Message::Request(u))
         }
         Upward::Release => deliver_lent(a, stock, s, Message::Release),
+        Upward::Withdraw => deliver_lent(a, stock, s, Message::Withdraw),
     }
 }

@@ -2,6 +2,7 @@
 use records::Arbiter;
 
 mod delivery;
+mod dropping;
 mod lending;
 mod service;
 
@@ -12,6 +13,7 @@ pub use lending::settle;
 pub enum Upward {
     Request(usize),
     Release,
+    Withdraw,
 }
 
 // A message that reaches a station's own arbiter: the stock, the station that sent it, and the message.

@@ -12,7 +12,7 @@ use Rattle.plain.specs.Answer.{refused, done}
 use Rattle.plain.specs.Arbiter.{arrived, Served, served}
 use Rattle.plain.specs.Lanes.{downPlaces, linePlaces, noPlace, passes}
 use Rattle.plain.specs.State.{Arbiter as PlainArbiter}
-use Rattle.plain.specs.Up.{granting, deliveredOf, up}
+use Rattle.plain.specs.Up.{replying, granting, deliveredOf, up}
 use Rattle.plain.specs.declared.Entry.{Entry}
 use Rattle.plain.specs.declared.Message.{Message}
 use Rattle.plain.proofs.Passed.{up-full, up-done}
@@ -33,8 +33,12 @@ module _ (r : Record) (s j : ℕ) (m : Message) (rest : Lanes) (takes : Takes r 
   abbrev pub service : Served
   service = served (r .n) (r .stock) joined
 
+  -- the lanes down when GONE has gone down, if the message was WITHDRAW
+  abbrev pub lanes-told : ℕ → ℕ → List Message
+  lanes-told = replying m (lanesOf (r .n) (r .down)) s j
+
   abbrev pub passing : List Entry → ℕ → Bool
-  passing grants t = passes downPlaces (granting (lanesOf (r .n) (r .down)) j grants t j)
+  passing grants t = passes downPlaces (granting lanes-told j grants t j)
 
   arbiter-is : view r .arbiter j ≡ arbiterOf (r .n) (getD (r .arbiters) j noArbiter)
   unfolding view
@@ -51,7 +55,7 @@ module _ (r : Record) (s j : ℕ) (m : Message) (rest : Lanes) (takes : Takes r 
     lane-down-full f = up-full (view r) s j (delivers r s j takes) (rw arbiter-is (or-right (passes linePlaces (joined .line)) _ (rw are at f)))
 
     module _ (after : Arbiter) (sent : Lanes) (long : j < length (r .arbiters)) (a : arbiterOf (r .n) after ≡ service .arbiter)
-        (c : lanesOf (r .n) sent ≡ granting (lanesOf (r .n) (r .down)) j grants) where
+        (c : lanesOf (r .n) sent ≡ granting lanes-told j grants) where
       states : deliveredOf (view r) s j m (takes .took .lane) ≡ view (storeDown sent (storeArbiter j after (storeUp rest r)))
       unfolding view deliveredOf
       states = rw (arbiter-is, arbiters-with (r .n) (r .arbiters) j after (takes .took .arbiter) long, a, c, are, takes .took .others)

@@ -12,7 +12,7 @@ use Rattle.quorum.specs.Family.{quorum}
 use Rattle.units.specs.declared.Units.{Units}
 use Rattle.plain.specs.Down.{Taken, onward, taken}
 use Rattle.plain.specs.declared.Phase.{Phase}
-use Rattle.plain.specs.declared.Phase.the-variants.{Idle, Collecting, Holding}
+use Rattle.plain.specs.declared.Phase.the-variants.{Idle, Collecting, Holding, Withdrawing}
 
 -- a lowest member of a set of stations below n is one of them
 pub lowest-below : (n set i : ℕ) → set < 2 ^ n → lowestFrom set i < places → lowestFrom set i < n
@@ -38,6 +38,10 @@ module _ (table : List ℕ) (j : ℕ) {p : Phase} where
   pub taken-holding : {q : ℕ} {h : Units} → p ≡ Holding q h → taken table j p ≡ Taken.drops
   unfolding taken
   taken-holding {q} {h} e = rw e
+
+  pub taken-withdrawing : p ≡ Withdrawing → taken table j p ≡ Taken.drops
+  unfolding taken
+  taken-withdrawing e = rw e
 
   pub taken-elsewhere : {q : ℕ} {h : Units} {m : ℕ} → p ≡ Collecting q h m → (m ≡ j → ⊥) → taken table j p ≡ Taken.drops
   unfolding taken

@@ -7,3 +7,6 @@ pub mod ReceivingDown
 pub mod GoingOnward
 pub mod ReleasingRow
 pub mod GivingBack
+pub mod ReplyingGone
+pub mod WithdrawingRow
+pub mod GivingUp

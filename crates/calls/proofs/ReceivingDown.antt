@@ -1,4 +1,4 @@
--- Down on a record, by what the station makes of the message: it asks, it holds, or it drops it.
+-- Down on a record, by what the station makes of the message: it asks, it holds, it is idle, or it drops it.
 -- Assumes nothing.
 use mathlib.Core.Bool.{true, false}
 use mathlib.Core.List.{List}
@@ -11,16 +11,17 @@ use Rattle.plain.specs.Answer.{Answer, refused, done}
 use Rattle.plain.specs.Asking.{askPasses, asking}
 use Rattle.plain.specs.Down.{Taken, enters, downPasses, receivedAs, down}
 use Rattle.plain.specs.Lanes.{noPlace}
-use Rattle.plain.specs.Updates.{withDown}
+use Rattle.plain.specs.Updates.{withPhase, withDown}
 use Rattle.plain.specs.declared.Message.{Message}
-use Rattle.plain.specs.declared.Phase.the-variants.{Holding}
+use Rattle.plain.specs.declared.Phase.{Phase}
+use Rattle.plain.specs.declared.Phase.the-variants.{Idle, Holding}
 use Rattle.plain.proofs.Passed.{down-full, down-done}
 use Rattle.records.specs.View.{lanesOf, view}
 use Rattle.records.specs.declared.Lanes.{Lanes}
 use Rattle.records.specs.declared.Record.{Record}
 use Rattle.records.proofs.Storing.{storePhase, storeDown, phase-stored, down-stored}
 use Rattle.calls.specs.Inner.Parts.{askAnswer, Receives}
-use Rattle.calls.proofs.AskingMember.{was-full, was-room, ask-room}
+use Rattle.calls.proofs.AskingMember.{ask-full, ask-room, was-full, was-room}
 use Rattle.calls.proofs.TakingMessage.{delivers}
 
 module _ (r : Record) (s j : ℕ) (rest : Lanes) {t : Taken} (receives : Receives r s j (lanesOf (r .n) rest) t) where
@@ -44,9 +45,12 @@ module _ (r : Record) (s j : ℕ) (rest : Lanes) {t : Taken} (receives : Receive
 -- it asks: what asking answers on the record without the message, a refusal hands back the whole
 module _ (r : Record) (s j : ℕ) (rest : Lanes) (q : ℕ) (h : Units) (m : ℕ) (receives : Receives r s j (lanesOf (r .n) rest) (Taken.asks q h m))
     (a : Answer) (is : a ≡ askAnswer (view (storeDown rest r)) s q h m) where
-  pub asks-full : (a .refusal ≡ 0 → ⊥) → down (view r) s j ≡ refused (view r) noPlace
+  pub asks-full : (a .refusal ≡ 0 → ⊥) → down (view r) s j ≡ record { refusal = a .refusal; entered = a .entered; left = a .left; state = view r }
   unfolding view
-  asks-full some = full-as r s j rest receives (was-full (view (storeDown rest r)) s q h m a is some)
+  asks-full some =
+      let full = was-full (view (storeDown rest r)) s q h m a is some in
+      full-as r s j rest receives full
+      ∙ sym (ap (λ (x : Answer). record { refusal = x .refusal; entered = x .entered; left = x .left; state = view r }) (is ∙ ask-full (view (storeDown rest r)) s q h m full))
 
   room : a .refusal ≡ 0 → askPasses (view (storeDown rest r)) s h m ≡ false
   room none = was-room (view (storeDown rest r)) s q h m a is none
@@ -61,14 +65,20 @@ module _ (r : Record) (s j : ℕ) (rest : Lanes) (q : ℕ) (h : Units) (m : ℕ)
       done-as r s j rest receives (room none) ∙ ap (done noUnits noUnits) states
       ∙ sym (is ∙ ask-room (view (storeDown rest r)) s q h m (room none))
 
--- it holds
-module _ (r : Record) (s j : ℕ) (rest : Lanes) (q : ℕ) (h : Units) (receives : Receives r s j (lanesOf (r .n) rest) (Taken.holds q h)) (long : s < length (r .stations)) where
-  held : receivedAs (view r) s j (receives .takes .took .lane) (Taken.holds q h) ≡ view (storePhase s (Holding q h) (storeDown rest r))
-  unfolding receivedAs
-  held = sym (phase-stored (storeDown rest r) s (Holding q h) (receives .takes .took .station) long ∙ rw (without-is r s j rest receives))
+-- it holds, or is idle: its phase is another
+module _ (r : Record) (s j : ℕ) (rest : Lanes) {t : Taken} (receives : Receives r s j (lanesOf (r .n) rest) t) (long : s < length (r .stations)) where
+  rephased : (p : Phase) → withPhase s p (withDown s j (receives .takes .took .lane) (view r)) ≡ view (storePhase s p (storeDown rest r))
+  rephased p = sym (phase-stored (storeDown rest r) s p (receives .takes .took .station) long ∙ rw (without-is r s j rest receives))
 
+module _ (r : Record) (s j : ℕ) (rest : Lanes) (q : ℕ) (h : Units) (receives : Receives r s j (lanesOf (r .n) rest) (Taken.holds q h)) (long : s < length (r .stations)) where
   pub holds-done : down (view r) s j ≡ done h noUnits (view (storePhase s (Holding q h) (storeDown rest r)))
-  holds-done = done-as r s j rest receives refl ∙ ap (done h noUnits) held
+  unfolding receivedAs
+  holds-done = done-as r s j rest receives refl ∙ ap (done h noUnits) (rephased r s j rest receives long (Holding q h))
+
+module _ (r : Record) (s j : ℕ) (rest : Lanes) (receives : Receives r s j (lanesOf (r .n) rest) Taken.idles) (long : s < length (r .stations)) where
+  pub idles-done : down (view r) s j ≡ done noUnits noUnits (view (storePhase s Idle (storeDown rest r)))
+  unfolding receivedAs
+  idles-done = done-as r s j rest receives refl ∙ ap (done noUnits noUnits) (rephased r s j rest receives long Idle)
 
 -- it drops the message
 module _ (r : Record) (s j : ℕ) (rest : Lanes) (receives : Receives r s j (lanesOf (r .n) rest) Taken.drops) where

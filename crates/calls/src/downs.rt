@@ -4,7 +4,8 @@ ghost use mathlib.Core.List.{List};
 ghost use mathlib.Core.Path.{_≡_};
 ghost use Prim.Native.Nat.{ℕ, _≤_, _<_, _^_};
 ghost use Rattle.lists.specs.Cut.{cut};
-ghost use Rattle.plain.specs.Down.{onward as onwardOf, taken, madeOf, Taken, down};
+ghost use Rattle.plain.specs.Down.{onward as onwardOf, taken, Taken, down};
+ghost use Rattle.plain.specs.declared.Message.the-variants.{Grant, Gone};
 ghost use Rattle.quorum.specs.Family.{quorum as quorumOf};
 ghost use Rattle.quorum.specs.Limits.{mostStations, mostQuorums};
 ghost use Rattle.records.specs.View.{view, lanesOf};
@@ -20,7 +21,7 @@ use records::Record;
 use records::Station;
 use units::Units;
 
-// It asks the next member of its quorum, it holds its units, or it drops the message.
+// Of a GRANT: it asks the next member of its quorum, it holds its units, or it drops the message.
 pub(crate) enum Taking {
     Asks {
         quorum: u8,
@@ -80,26 +81,7 @@ fn granted(
             quorum: _,
             units: _,
         } => Taking::Drops,
-    }
-}
-
-// And of any message; no lane down in range has another than GRANT.
-fn made_of(
-    m: Message,
-    p: Phase,
-    n: usize,
-    j: usize,
-    quorums: usize,
-    table: [u16; quorum::MOST_QUORUMS],
-) -> Taking
-    requires { ⌜ (j < mostStations) × (quorums ≤ mostQuorums) × Wishes n (cut 0 quorums table) p ⌝ }
-    ensures taking { λ r. ⌜ takenOf r ≡ madeOf (cut 0 quorums table) j p m ⌝ }
-    ensures within { λ r. ⌜ within n r ≡ true ⌝ }
-{
-    match m {
-        Message::Request(_) => Taking::Drops,
-        Message::Release => Taking::Drops,
-        Message::Grant => granted(p, n, j, quorums, table),
+        Phase::Withdrawing => Taking::Drops,
     }
 }
 
@@ -111,9 +93,9 @@ fn asks(r: Record, s: usize, j: usize, rest: Lanes, quorum: u8, units: Units, me
 {
     let mut next = r;
     next.down = rest;
-    let a = asking::ask(next, s, quorum, units, member);
+    let mut a = asking::ask(next, s, quorum, units, member);
     if a.refusal != refusals::NO_REFUSAL {
-        return crate::refuse(r, crate::NO_PLACE);
+        a.record = r; // with the message
     }
     a
 }
@@ -133,6 +115,19 @@ fn holds(r: Record, s: usize, j: usize, rest: Lanes, quorum: u8, units: Units) -
     crate::done_with(next, units, units::no_units())
 }
 
+// The station is idle.
+fn idles(r: Record, s: usize, j: usize, rest: Lanes) -> Answer
+    requires { ⌜ Receives r s j (lanesOf (r .n) rest) Taken.idles ⌝ }
+    ensures answer { λ a. ⌜ answerOf a ≡ down (view r) s j ⌝ }
+    ensures accepted { λ a. ⌜ a .refusal ≡ 0 ⌝ }
+{
+    let mut next = r;
+    next.down = rest;
+    let station = Station { phase: Phase::Idle };
+    next.stations[s] = station;
+    crate::done(next)
+}
+
 // The message is dropped.
 fn drops(r: Record, s: usize, j: usize, rest: Lanes) -> Answer
     requires { ⌜ Receives r s j (lanesOf (r .n) rest) Taken.drops ⌝ }
@@ -144,16 +139,16 @@ fn drops(r: Record, s: usize, j: usize, rest: Lanes) -> Answer
     crate::done(next)
 }
 
-// The message m reaches station s.
-pub(crate) fn receive(r: Record, s: usize, j: usize, m: Message, rest: Lanes) -> Answer
-    requires { ⌜ Takes r s j (view r .down) m (lanesOf (r .n) rest) ⌝ }
+// GRANT reaches station s.
+fn told_grant(r: Record, s: usize, j: usize, rest: Lanes) -> Answer
+    requires { ⌜ Takes r s j (view r .down) Grant (lanesOf (r .n) rest) ⌝ }
     ensures answer { λ a. ⌜ answerOf a ≡ down (view r) s j ⌝ }
     ensures refused { λ a. ⌜ (0 < a .refusal → a .«record» ≡ r) ⌝ }
 {
     let station = r.stations[s];
     let p = station.phase;
     let table = r.table;
-    let made = made_of(m, p, r.n as usize, j, r.quorums as usize, table);
+    let made = granted(p, r.n as usize, j, r.quorums as usize, table);
     match made {
         Taking::Asks {
             quorum,
@@ -162,5 +157,43 @@ pub(crate) fn receive(r: Record, s: usize, j: usize, m: Message, rest: Lanes) ->
         } => asks(r, s, j, rest, quorum, units, member),
         Taking::Holds { quorum, units } => holds(r, s, j, rest, quorum, units),
         Taking::Drops => drops(r, s, j, rest),
+    }
+}
+
+// GONE reaches it.
+fn told_gone(r: Record, s: usize, j: usize, rest: Lanes) -> Answer
+    requires { ⌜ Takes r s j (view r .down) Gone (lanesOf (r .n) rest) ⌝ }
+    ensures answer { λ a. ⌜ answerOf a ≡ down (view r) s j ⌝ }
+    ensures accepted { λ a. ⌜ a .refusal ≡ 0 ⌝ }
+{
+    let station = r.stations[s];
+    let p = station.phase;
+    match p {
+        Phase::Idle => drops(r, s, j, rest),
+        Phase::Collecting {
+            quorum: _,
+            units: _,
+            member: _,
+        } => drops(r, s, j, rest), // a GONE does not stop it
+        Phase::Holding {
+            quorum: _,
+            units: _,
+        } => drops(r, s, j, rest),
+        Phase::Withdrawing => idles(r, s, j, rest),
+    }
+}
+
+// The message m reaches it; no lane down in range has another than GRANT and GONE.
+pub(crate) fn receive(r: Record, s: usize, j: usize, m: Message, rest: Lanes) -> Answer
+    requires { ⌜ Takes r s j (view r .down) m (lanesOf (r .n) rest) ⌝ }
+    ensures answer { λ a. ⌜ answerOf a ≡ down (view r) s j ⌝ }
+    ensures refused { λ a. ⌜ (0 < a .refusal → a .«record» ≡ r) ⌝ }
+{
+    match m {
+        Message::Request(_) => drops(r, s, j, rest),
+        Message::Release => drops(r, s, j, rest),
+        Message::Grant => told_grant(r, s, j, rest),
+        Message::Withdraw => drops(r, s, j, rest),
+        Message::Gone => told_gone(r, s, j, rest),
     }
 }

@@ -1,4 +1,4 @@
-// The four calls of a station on a record by value: each tests its refusals in their order, then does what is asked.
+// The five calls of a station on a record by value: each tests its refusals in their order, then does what is asked.
 ghost use mathlib.Core.Path.{_≡_};
 ghost use Prim.Native.Nat.{_<_};
 ghost use Rattle.plain.specs.Answer.{refused as refusedBy, done as doneWith};
@@ -6,6 +6,7 @@ ghost use Rattle.plain.specs.Down.{down as downOf};
 ghost use Rattle.plain.specs.Release.{release as releaseOf};
 ghost use Rattle.plain.specs.Request.{isIdle, request as requestOf};
 ghost use Rattle.plain.specs.Up.{up as upOf};
+ghost use Rattle.plain.specs.Withdraw.{withdraw as withdrawOf};
 ghost use Rattle.records.specs.View.{view};
 ghost use Rattle.units.specs.Units.{noUnits, unitsOf};
 ghost use Rattle.calls.specs.Answers.{answerOf};
@@ -20,6 +21,7 @@ mod releases;
 mod sending;
 mod taking;
 mod ups;
+mod withdrawals;
 
 // What a call answers. A refused call enters and leaves 0 units and hands back the record that it was given.
 pub struct Answer {
@@ -81,6 +83,7 @@ fn is_idle(p: Phase) -> bool
             quorum: _,
             units: _,
         } => false,
+        Phase::Withdrawing => false,
     }
 }
 
@@ -164,5 +167,34 @@ pub fn release(r: Record, s: usize) -> Answer
             member: _,
         } => refuse(r, refusals::NOT_HOLDING),
         Phase::Holding { quorum, units } => releases::give_back(r, s, quorum, units),
+        Phase::Withdrawing => refuse(r, refusals::NOT_HOLDING),
+    }
+}
+
+// Station s gives up what it asked for.
+pub fn withdraw(r: Record, s: usize) -> Answer
+    ensures answer { λ a. ⌜ answerOf a ≡ withdrawOf (view r) s ⌝ }
+    ensures refused { λ a. ⌜ (0 < a .refusal → a .«record» ≡ r) ⌝ }
+{
+    if !records::in_range(r) {
+        return refuse(r, refusals::OUT_OF_RANGE);
+    }
+    if r.n as usize <= s {
+        return refuse(r, refusals::NO_SUCH_STATION);
+    }
+    let station = r.stations[s];
+    let p = station.phase;
+    match p {
+        Phase::Idle => refuse(r, refusals::NOT_COLLECTING),
+        Phase::Collecting {
+            quorum,
+            units: _,
+            member,
+        } => withdrawals::give_up(r, s, quorum, member),
+        Phase::Holding {
+            quorum: _,
+            units: _,
+        } => refuse(r, refusals::NOT_COLLECTING),
+        Phase::Withdrawing => refuse(r, refusals::NOT_COLLECTING),
     }
 }

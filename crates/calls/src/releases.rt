@@ -45,7 +45,7 @@ fn release_to(w: Row, j: usize, set: u16) -> Released
 }
 
 // RELEASE goes up to all members of the set.
-fn release_row(w: Row, n: usize, set: u16) -> Released
+pub(crate) fn release_row(w: Row, n: usize, set: u16) -> Released
     requires { ⌜ (n ≤ mostStations) × (set < 2 ^ n) ⌝ }
     ensures full { λ r. ⌜ r .full ≡ someBelow (releasePasses set (rowOf n w)) n ⌝ }
     ensures row { λ r. ⌜ (r .full ≡ false → rowOf n (r .row) ≡ releasing set (rowOf n w)) ⌝ }

@@ -11,22 +11,22 @@ use plain::Message;
 use records::Lanes;
 use records::Record;
 
-// The message m reaches arbiter j, and its grants go down. `rest` are the lanes up without the message.
+// The message m reaches arbiter j, and what it sends goes down. `rest` are the lanes up without the message.
 pub(crate) fn deliver_up(r: Record, s: usize, j: usize, m: Message, rest: Lanes) -> Answer
     requires { ⌜ Takes r s j (view r .up) m (lanesOf (r .n) rest) ⌝ }
     ensures answer { λ a. ⌜ answerOf a ≡ up (view r) s j ⌝ }
     ensures refused { λ a. ⌜ (0 < a .refusal → a .«record» ≡ r) ⌝ }
 {
     let n = r.n as usize;
-    let mut next = r;
-    next.up = rest;
     let before = r.arbiters[j];
     let delivery = arbiters::deliver(before, n, r.stock, s, m);
     if delivery.refusal != refusals::NO_REFUSAL {
         return crate::refuse(r, crate::NO_PLACE); // in the line
     }
     let line = delivery.line;
-    let sent = sending::send(r.down, n, j, line, delivery.grants);
+    let sent = sending::send(r.down, n, s, j, m, line, delivery.grants);
+    let mut next = r;
+    next.up = rest;
     if sent.full {
         return crate::refuse(r, crate::NO_PLACE); // in a lane down
     }

@@ -1,4 +1,4 @@
--- Each of the four calls ends on the machine of the logic, from every memory, and what it returns is an answer of which its contract holds.
+-- Each of the five calls ends on the machine of the logic, from every memory, and what it returns is an answer of which its contract holds.
 -- Assumes nothing.
 use mathlib.Core.List.{[], _∷_}
 use mathlib.Core.Path.{refl}
@@ -31,6 +31,10 @@ use Rattle.calls.proofs.up.Kinds as up-kinds
 use Rattle.calls.proofs.up.Met as up-met
 use Rattle.calls.proofs.up.Reads as up
 use Rattle.calls.proofs.up.Symbol as up-code
+use Rattle.calls.proofs.withdraw.Kinds as withdraw-kinds
+use Rattle.calls.proofs.withdraw.Met as withdraw-met
+use Rattle.calls.proofs.withdraw.Reads as withdraw
+use Rattle.calls.proofs.withdraw.Symbol as withdraw-code
 use Rattle.machine.proofs.ReturningCall.{Had, 𝓡₀, number-had, returns}
 use Rattle.claim.specs.Execution.{IsRecord, IsAnswer, argumentsOf, Fit, Gives}
 use Rattle.claim.specs.Trace.{LearntOf}
@@ -60,3 +64,8 @@ call-ends r w is (Call.Release s) fits σ =
     release.known (release-met.met Closed.𝓤 Closed.H Closed.model ghost₀ 𝓡₀) tt (record-had, (number-had w64, tt))
     (r, (s, tt)) (w ∷ [], (vint w64 s ∷ [], tt)) (is, ((refl, fits .0), tt)) tt
     (LearntOf r (Call.Release s)) (λ z ws l. l) σ
+call-ends r w is (Call.Withdraw s) fits σ =
+    returns withdraw-kinds.ps withdraw-kinds.r withdraw.Asked withdraw.Learnt withdraw-code.routine
+    withdraw.known (withdraw-met.met Closed.𝓤 Closed.H Closed.model ghost₀ 𝓡₀) tt (record-had, (number-had w64, tt))
+    (r, (s, tt)) (w ∷ [], (vint w64 s ∷ [], tt)) (is, ((refl, fits .0), tt)) tt
+    (LearntOf r (Call.Withdraw s)) (λ z ws l. l) σ

@@ -19,6 +19,7 @@ learnt-call r (Call.Request s q h) a e = e .0 ∙ ap (request (view r) s q) (uni
 learnt-call r (Call.Up s j) a e = e .0
 learnt-call r (Call.Down s j) a e = e .0
 learnt-call r (Call.Release s) a e = e .0
+learnt-call r (Call.Withdraw s) a e = e .0
 
 -- one for one: refusal, units entered, units left and record
 pub trace-runs : {r : Record} {calls : List Call} {answers : List Answer} → Trace r calls answers → map answerOf answers ≡ run (view r) calls

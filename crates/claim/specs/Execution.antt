@@ -16,6 +16,7 @@ use Rattle.calls.proofs.down.Symbol as down
 use Rattle.calls.proofs.release.Symbol as release
 use Rattle.calls.proofs.request.Symbol as request
 use Rattle.calls.proofs.up.Symbol as up
+use Rattle.calls.proofs.withdraw.Symbol as withdraw
 
 -- w is the machine's value of the record: its numbers fit their widths, and its arrays have their lengths
 abbrev pub IsRecord : Record → Val → Type 0
@@ -38,6 +39,7 @@ routineOf (Call.Request s q h) = request.routine
 routineOf (Call.Up s j) = up.routine
 routineOf (Call.Down s j) = down.routine
 routineOf (Call.Release s) = release.routine
+routineOf (Call.Withdraw s) = withdraw.routine
 
 -- the numbers that it is passed behind the record
 abbrev pub argumentsOf : Call → List ℕ
@@ -45,6 +47,7 @@ argumentsOf (Call.Request s q h) = s ∷ q ∷ numberOf h ∷ []
 argumentsOf (Call.Up s j) = s ∷ j ∷ []
 argumentsOf (Call.Down s j) = s ∷ j ∷ []
 argumentsOf (Call.Release s) = s ∷ []
+argumentsOf (Call.Withdraw s) = s ∷ []
 
 -- numbers that a `usize` can hold; all numbers of a list of calls
 abbrev pub Fit : List ℕ → Type 0

@@ -37,9 +37,13 @@ module _ (what w h : ℕ) where
     unfolding callOf
     call-down e = rw e
 
-    pub call-release : (what ≡ 0 → ⊥) → (what ≡ 1 → ⊥) → (what ≡ 2 → ⊥) → callOf what s w h ≡ Call.Release s
+    pub call-release : what ≡ 3 → callOf what s w h ≡ Call.Release s
     unfolding callOf
-    call-release d₀ d₁ d₂ = rw (ne-eqb what 0 d₀, ne-eqb what 1 d₁, ne-eqb what 2 d₂)
+    call-release e = rw e
+
+    pub call-withdraw : (what ≡ 0 → ⊥) → (what ≡ 1 → ⊥) → (what ≡ 2 → ⊥) → (what ≡ 3 → ⊥) → callOf what s w h ≡ Call.Withdraw s
+    unfolding callOf
+    call-withdraw d₀ d₁ d₂ d₃ = rw (ne-eqb what 0 d₀, ne-eqb what 1 d₁, ne-eqb what 2 d₂, ne-eqb what 3 d₃)
 
 -- a list of one call
 pub one-formed : (what s w h : ℕ) → wellFormed (what ∷ s ∷ w ∷ h ∷ []) ≡ formed what w h

@@ -12,7 +12,8 @@ use Rattle.plain.specs.State.{State}
 use Rattle.records.specs.View.{view}
 use Rattle.machine.specs.declared.Performed.{Performed}
 
--- "`do` is request, up, down or release": their numbers in a list of calls, and how many they are
+-- "`do` is request, up, down or release", and "The journal has `do=withdraw` with 0 and 0": their numbers in a list of calls, and how many
+-- they are
 abbrev pub doRequest : ℕ
 doRequest = 0
 
@@ -25,8 +26,11 @@ doDown = 2
 abbrev pub doRelease : ℕ
 doRelease = 3
 
+abbrev pub doWithdraw : ℕ
+doWithdraw = 4
+
 abbrev pub doWords : ℕ
-doWords = 4
+doWords = 5
 
 -- a call is four numbers, `do`, `station`, `with` and `units`, and an answer three
 abbrev pub callNumbers : ℕ
@@ -35,10 +39,10 @@ callNumbers = 4
 abbrev pub answerNumbers : ℕ
 answerNumbers = 3
 
--- `do` is one of its words, `with` 0 in a release, `units` 0 except in a request: "`with` is the quorum of a request, the arbiter of up and
--- down, 0 in a release. `units` is 0 except in a request."
+-- `do` is one of its words, `with` 0 in a release and in a withdraw, `units` 0 except in a request: "`with` is the quorum of a request, the
+-- arbiter of up and down, 0 in a release. `units` is 0 except in a request." and "The journal has `do=withdraw` with 0 and 0."
 unfoldable pub formed : ℕ → ℕ → ℕ → Bool
-formed what w h = ltb what doWords && ((not (eqb what doRelease) || eqb w 0) && (eqb what doRequest || eqb h 0))
+formed what w h = ltb what doWords && ((not (eqb what doRelease || eqb what doWithdraw) || eqb w 0) && (eqb what doRequest || eqb h 0))
 
 -- four numbers a call, each call of the form
 unfoldable pub wellFormed : List ℕ → Bool
@@ -50,7 +54,10 @@ wellFormed (what ∷ s ∷ w ∷ h ∷ rest) = formed what w h && wellFormed res
 
 unfoldable pub callOf : ℕ → ℕ → ℕ → ℕ → Call
 callOf what s w h =
-    cond (eqb what doRequest) (Call.Request s w (unitsOf h)) (cond (eqb what doUp) (Call.Up s w) (cond (eqb what doDown) (Call.Down s w) (Call.Release s)))
+    cond (eqb what doRequest) (Call.Request s w (unitsOf h))
+    (cond (eqb what doUp) (Call.Up s w)
+    (cond (eqb what doDown) (Call.Down s w)
+    (cond (eqb what doRelease) (Call.Release s) (Call.Withdraw s))))
 
 unfoldable pub callsOf : List ℕ → List Call
 callsOf [] = []

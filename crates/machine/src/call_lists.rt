@@ -15,6 +15,7 @@ use crate::DO_DOWN;
 use crate::DO_RELEASE;
 use crate::DO_REQUEST;
 use crate::DO_UP;
+use crate::DO_WITHDRAW;
 use crate::WORDS_OF_DO;
 use calls::Answer;
 use records::Record;
@@ -26,7 +27,7 @@ pub fn is_formed(what: u16, with: u16, units: u16) -> bool
     if WORDS_OF_DO <= what {
         return false;
     }
-    if what == DO_RELEASE && with != 0 {
+    if (what == DO_RELEASE || what == DO_WITHDRAW) && with != 0 {
         return false;
     }
     if what == DO_REQUEST {
@@ -63,7 +64,10 @@ pub(crate) fn answer_to(r: Record, what: u16, station: u16, with: u16, units: u1
     if what == DO_DOWN {
         return calls::down(r, s, w);
     }
-    calls::release(r, s)
+    if what == DO_RELEASE {
+        return calls::release(r, s);
+    }
+    calls::withdraw(r, s)
 }
 
 // The answer to the call whose numbers begin at place i.

@@ -19,8 +19,8 @@ pub use call_lists::is_formed;
 // Whether a list of numbers is a list of calls of the form.
 pub use call_lists::all_formed;
 
-// A lent list of calls has four numbers a call: what to do, the station, the quorum of a request or the arbiter of up and down (0 in a
-// release), and the units of a request (0 otherwise). Its answers are three numbers a call: refusal, units entered, units left.
+// A lent list of calls has four numbers a call: what to do, the station, the quorum of a request or the arbiter of up and down (0 otherwise),
+// and the units of a request (0 otherwise). Its answers are three numbers a call: refusal, units entered, units left.
 pub const CALL_NUMBERS: usize = 4;
 
 pub const ANSWER_NUMBERS: usize = 3;
@@ -33,8 +33,10 @@ pub const DO_DOWN: u16 = 2;
 
 pub const DO_RELEASE: u16 = 3;
 
+pub const DO_WITHDRAW: u16 = 4;
+
 // How many words `do` has.
-pub const WORDS_OF_DO: u16 = 4;
+pub const WORDS_OF_DO: u16 = 5;
 
 // What a list of calls answers besides the numbers: whether the list was refused, and the record after it.
 pub struct Performed {

@@ -21,7 +21,7 @@ use Rattle.plain.specs.Lanes.{keeps}
 use Rattle.plain.specs.Request.{requestRefusal, requested, request}
 use Rattle.plain.specs.Run.{Call, call, run}
 use Rattle.plain.specs.State.{fresh}
-use Rattle.plain.specs.Up.{granting, deliveredOf, delivered, up}
+use Rattle.plain.specs.Up.{replying, granting, deliveredOf, delivered, up}
 use Rattle.plain.proofs.HandMade.{said, done, enters}
 
 pub six-units : exceeding 2 (stockOf 5) (1 ∷ (2 ∷ [])) ≡ Call.Request 0 0 (unitsOf 1) ∷ (Call.Up 0 0 ∷ (Call.Down 0 0 ∷ (Call.Request 1 1 (unitsOf 5) ∷ (Call.Up 1 1 ∷ (Call.Down 1 1 ∷ [])))))
@@ -29,5 +29,5 @@ unfolding commonWithin families firstFamily emptied leastSize width member visit
 six-units = refl
 
 pub six-entered : map said (run (fresh 2 (stockOf 5) (1 ∷ (2 ∷ []))) (exceeding 2 (stockOf 5) (1 ∷ (2 ∷ [])))) ≡ done ∷ (done ∷ (enters 1 ∷ (done ∷ (done ∷ (enters 5 ∷ [])))))
-unfolding commonWithin families firstFamily emptied leastSize width member visits collects exceeds exceeding brokenLimit lowestAmong lowestFrom at total fresh answered arrived fits serve unitsIn onward taken receivedAs received entering down goesUp goesDown keeps phaseIn entryIn arbiterIn inRange requestRefusal requested request call run granting deliveryRefusal deliveredOf delivered up only askedWith askedBy unitsOf stockOf requestIn grantIn
+unfolding commonWithin families firstFamily emptied leastSize width member visits collects exceeds exceeding brokenLimit lowestAmong lowestFrom at total fresh answered arrived fits serve unitsIn onward taken receivedAs received entering down goesUp goesDown keeps phaseIn entryIn arbiterIn inRange requestRefusal requested request call run replying granting deliveryRefusal deliveredOf delivered up only askedWith askedBy unitsOf stockOf requestIn grantIn
 six-entered = refl

@@ -28,7 +28,7 @@ use Rattle.plain.specs.Release.{releasing, releaseRefusal, givenBack, released,
 use Rattle.plain.specs.Request.{requestRefusal, requested, request}
 use Rattle.plain.specs.Run.{Call, call, run}
 use Rattle.plain.specs.State.{fresh}
-use Rattle.plain.specs.Up.{granting, deliveredOf, delivered, up}
+use Rattle.plain.specs.Up.{replying, granting, deliveredOf, delivered, up}
 use Rattle.plain.proofs.HandMade.{Call-says, said, done, enters, refuses}
 
 -- what a marked case says: the check's answer on a table, a quorum of a ready-made table, or the answers of a run
@@ -113,5 +113,5 @@ pub marked :
     -- P12
     ∷ Says.calls (done ∷ done ∷ done ∷ done ∷ enters 1 ∷ done ∷ done ∷ refuses 13 ∷ [])
     ∷ [])
-unfolding answer answerTo refusal nested even belongs width emptied leastSize firstFamily lacksCommon commonWithin families brokenLimit member contains cubeTable each cubeQuorum setOf agree coordinate lowestAmong lowestFrom at total fresh answered arrived fits serve unitsIn onward taken receivedAs received entering down goesUp goesDown keeps phaseIn entryIn arbiterIn inRange releasing releaseRefusal givenBack released release requestRefusal requested request call run granting deliveryRefusal deliveredOf delivered up requestIn grantIn askedWith unitsOf stockOf
+unfolding answer answerTo refusal nested even belongs width emptied leastSize firstFamily lacksCommon commonWithin families brokenLimit member contains cubeTable each cubeQuorum setOf agree coordinate lowestAmong lowestFrom at total fresh answered arrived fits serve unitsIn onward taken receivedAs received entering down goesUp goesDown keeps phaseIn entryIn arbiterIn inRange releasing releaseRefusal givenBack released release requestRefusal requested request call run replying granting deliveryRefusal deliveredOf delivered up requestIn grantIn askedWith unitsOf stockOf
 marked = refl

@@ -2,7 +2,7 @@
 ghost use mathlib.Core.Path.{_≡_};
 ghost use Prim.Native.Nat.{_<_};
 ghost use lib.ListN.{length};
-ghost use Rattle.arbiters.specs.Lent.{lending, lentOf};
+ghost use Rattle.arbiters.specs.Lent.{lentOf};
 ghost use Rattle.quorum.specs.Answer.{said as checkedSays, answer};
 ghost use Rattle.quorum.specs.Limits.{mostStations};
 ghost use Rattle.quorum.specs.Scratch.{cleaned};
@@ -12,7 +12,7 @@ ghost use Rattle.tables.specs.Made.{said as madeSays, answer as making, written
 ghost use Rattle.tables.specs.Singleton.{singletonTable, singletonRefusal};
 ghost use Rattle.tables.specs.Uniform.{uniformTable, uniformRefusal};
 ghost use Rattle.units.specs.Units.{stockOf};
-ghost use Rattle.pafluzeno.specs.Arriving.{upwardOf};
+ghost use Rattle.pafluzeno.specs.Arriving.{arriving};
 
 mod journal;
 
@@ -31,13 +31,21 @@ use quorum::Checked;
 use records::Arbiter;
 use tables::Made;
 
-// A message that reaches a station's own arbiter: the stock, the station that sent it, whether it is a REQUEST or a RELEASE, and the units of
-// a REQUEST.
+// The messages by number, and how many they are.
+pub const MESSAGE_RELEASE: u8 = 0;
+
+pub const MESSAGE_REQUEST: u8 = 1;
+
+pub const MESSAGE_WITHDRAW: u8 = 2;
+
+pub const MESSAGES: u8 = 3;
+
+// A message that reaches a station's own arbiter: the stock, the station that sent it, the number of the message, and the units of a REQUEST.
 #[repr(C)]
 pub struct Arrival {
     pub stock: usize,
     pub station: usize,
-    pub request: bool,
+    pub message: u8,
     pub units: usize,
 }
 
@@ -84,17 +92,37 @@ pub extern "C" fn pafluzeno_cube(a: usize, k: usize, out: &mut [u16]) -> Made
 
 // The message in the machine's own form.
 fn settled(a: Arbiter, m: Arrival) -> Settled
-    ensures { λ r. ⌜ (lentOf (r .reply) (r .arbiter) ≡ lending (stockOf (m .stock)) (m .station) (upwardOf (m .request) (m .units)) (arbiterOf mostStations a)) × (0 < r .reply .refusal → r .arbiter ≡ a) ⌝ }
+    ensures { λ r. ⌜ (lentOf (r .reply) (r .arbiter) ≡ arriving (stockOf (m .stock)) (m .station) (m .message) (m .units) (arbiterOf mostStations a)) × (0 < r .reply .refusal → r .arbiter ≡ a) ⌝ }
 {
     let stock = m.stock;
     let station = m.station;
-    if m.request {
+    let message = m.message;
+    if MESSAGES <= message {
+        return Settled {
+            reply: Reply {
+                refusal: refusals::BAD_FORM,
+                granted: 0,
+            },
+            arbiter: a,
+        };
+    }
+    if message == MESSAGE_REQUEST {
         return arbiters::settle(
             a,
             Incoming {
                 stock,
                 station,
                 message: Upward::Request(m.units),
+            },
+        );
+    }
+    if message == MESSAGE_WITHDRAW {
+        return arbiters::settle(
+            a,
+            Incoming {
+                stock,
+                station,
+                message: Upward::Withdraw,
             },
         );
     }
@@ -112,7 +140,7 @@ fn settled(a: Arbiter, m: Arrival) -> Settled
 // answers the set of stations granted; a refusal answers the empty set and changes nothing.
 #[no_mangle]
 pub extern "C" fn pafluzeno_tell(a: &mut Arbiter, m: Arrival) -> Reply
-    ensures { λ r. ⌜ (lentOf r (now (a .exit)) ≡ lending (stockOf (m .stock)) (m .station) (upwardOf (m .request) (m .units)) (arbiterOf mostStations (now (a .entry)))) × (0 < r .refusal → now (a .exit) ≡ now (a .entry)) ⌝ }
+    ensures { λ r. ⌜ (lentOf r (now (a .exit)) ≡ arriving (stockOf (m .stock)) (m .station) (m .message) (m .units) (arbiterOf mostStations (now (a .entry)))) × (0 < r .refusal → now (a .exit) ≡ now (a .entry)) ⌝ }
 {
     let settled = settled(*a, m);
     *a = settled.arbiter;

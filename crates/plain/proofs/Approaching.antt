@@ -3,7 +3,7 @@
 use mathlib.Core.Bool.{true, false}
 use mathlib.Core.List.{List}
 use mathlib.Core.Logic.{by-cases}
-use mathlib.Core.Path.{_≡_}
+use mathlib.Core.Path.{_≡_, refl}
 use Prim.Native.Nat.{ℕ, suc, _≤_, _<_, _^_}
 use native.Mathlib.Decide.{decLt}
 use native.Mathlib.Omega.{arith}
@@ -19,16 +19,27 @@ use Rattle.quorum.specs.Limits.{brokenLimit}
 use Rattle.quorum.proofs.Promises.{Limits, limits-kept}
 use Rattle.units.specs.Units.{askedWith}
 use Rattle.units.specs.declared.Units.{Units}
-use Rattle.plain.specs.Down.{Taken, onward, taken, madeOf}
+use Rattle.plain.specs.Down.{Taken, onward, taken, left, madeOf}
 use Rattle.plain.specs.declared.Message.{Message}
-use Rattle.plain.specs.declared.Message.the-variants.{Request, Release, Grant}
+use Rattle.plain.specs.declared.Message.the-variants.{Request, Release, Grant, Withdraw, Gone}
 use Rattle.plain.specs.declared.Phase.{Phase}
+use Rattle.plain.specs.declared.Phase.the-variants.{Idle, Collecting, Holding, Withdrawing}
 
--- what a station makes of any message: nothing, or what it makes of a GRANT
-pub made-as : (P : Taken → Type 0) (table : List ℕ) (j : ℕ) (p : Phase) → P Taken.drops → P (taken table j p) → (m : Message) → P (madeOf table j p m)
-made-as P table j p drops grant (Request h) = drops
-made-as P table j p drops grant Release = drops
-made-as P table j p drops grant Grant = grant
+-- what a station makes of any message: nothing, or what it makes of a GRANT or of a GONE
+pub made-as : (P : Taken → Type 0) (table : List ℕ) (j : ℕ) (p : Phase) → P Taken.drops → P (taken table j p) → P (left p) → (m : Message) → P (madeOf table j p m)
+made-as P table j p drops grant gone (Request h) = drops
+made-as P table j p drops grant gone Release = drops
+made-as P table j p drops grant gone Withdraw = drops
+made-as P table j p drops grant gone Grant = grant
+made-as P table j p drops grant gone Gone = gone
+
+-- only a withdrawing station makes anything of a GONE
+pub left-as : (P : Taken → Type 0) (p : Phase) → P Taken.drops → (p ≡ Withdrawing → P Taken.idles) → P (left p)
+unfolding left
+left-as P Idle drops idles = drops
+left-as P (Collecting q h m) drops idles = drops
+left-as P (Holding q h) drops idles = drops
+left-as P Withdrawing drops idles = idles refl
 
 -- m is the lowest member from i on of a quorum of n stations
 pub record Lowest-member (n q i m : ℕ) : Type 0 where

@@ -21,7 +21,8 @@ use Rattle.plain.specs.Lanes.{linePlaces, keeps, passes}
 use Rattle.plain.specs.State.{Arbiter}
 use Rattle.plain.specs.declared.Entry.{Entry}
 use Rattle.plain.specs.declared.Message.{Message}
-use Rattle.plain.specs.declared.Message.the-variants.{Request, Release, Grant}
+use Rattle.plain.specs.declared.Message.the-variants.{Request, Release, Grant, Withdraw, Gone}
+use Rattle.plain.proofs.Dropping.{keeps-without}
 use Rattle.plain.proofs.LanesInRange.{keeps-more, keeps-rest, keeps-all}
 use Rattle.plain.proofs.Serving.{serve-splits}
 
@@ -57,7 +58,13 @@ module _ (n : ℕ) (stock : Units) where
         grants = λ t b. at-all (λ g. grantIn stock g ≡ true) (a .granted) s _ (search (none-granted stock, f .grants s l)) t (f .grants t b);
         line = f .line;
       }
+  arrived-in Withdraw s a l u room f =
+      record {
+        grants = λ t b. at-all (λ g. grantIn stock g ≡ true) (a .granted) s _ (search (none-granted stock, f .grants s l)) t (f .grants t b);
+        line = keeps-without s linePlaces (entryIn n stock) (a .line) (f .line);
+      }
   arrived-in Grant s a l u room f = f
+  arrived-in Gone s a l u room f = f
 
   serve-in : (g : ℕ → Units) (line : List Entry) → ((s : ℕ) → s < n → grantIn stock (g s) ≡ true) → all (entryIn n stock) line ≡ true → (s : ℕ) → s < n → grantIn stock (serve n stock g line .arbiter .granted s) ≡ true
   unfolding serve entryIn

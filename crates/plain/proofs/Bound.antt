@@ -25,9 +25,10 @@ use Rattle.plain.specs.Release.{held}
 use Rattle.plain.specs.Run.{Call, run, after, WithinStock}
 use Rattle.plain.specs.State.{State, fresh}
 use Rattle.plain.specs.declared.Phase.{Phase}
-use Rattle.plain.specs.declared.Phase.the-variants.{Idle, Collecting, Holding}
+use Rattle.plain.specs.declared.Phase.the-variants.{Idle, Collecting, Holding, Withdrawing}
 use Rattle.plain.proofs.Held.{heldBy, difference-held}
-use Rattle.plain.proofs.Invariant.{Invariant, fresh-keeps, calls-keep}
+use Rattle.plain.proofs.Invariant.{Invariant}
+use Rattle.plain.proofs.InvariantKept.{fresh-keeps, calls-keep}
 use Rattle.plain.proofs.Pairs.{has-granted}
 use Rattle.plain.proofs.Range.{Ranged, ranged}
 use Rattle.plain.proofs.SameTable.{calls-same}
@@ -39,6 +40,7 @@ with-quorum : Amount → Phase → List ℕ → List ℕ
 with-quorum a Idle f = f
 with-quorum a (Collecting q h m) f = f
 with-quorum a (Holding q h) f = cond (leb 1 (amount a h)) (q ∷ f) f
+with-quorum a Withdrawing f = f
 
 quorums : Amount → (ℕ → Phase) → ℕ → List ℕ
 quorums a phase zero = []
@@ -60,6 +62,7 @@ module _ (st : State) (range : Ranged st) (inv : Invariant st) (a : Amount) wher
       go (Holding q u) e f =
           either (Numbers (length (st .table))) (leb 1 (amount a u))
           (Numbers.and (ltb-true q (length (st .table)) (and-left (ltb q (length (st .table))) (requestIn (st .stock) u) e)) f) f
+      go Withdrawing e f = f
 
   -- each holds at least one unit, so there are no more of them than units
   fewer : (i : ℕ) → length (holders i) ≤ heldBy a (st .phase) i
@@ -73,6 +76,7 @@ module _ (st : State) (range : Ranged st) (inv : Invariant st) (a : Amount) wher
       go (Holding q u) f =
           ⊎-elim (λ (t : leb 1 (amount a u) ≡ true). rw t (omega (arith, leb-true 1 (amount a u) t))) (λ (t : leb 1 (amount a u) ≡ false). rw t (omega arith))
           (known (leb 1 (amount a u)))
+      go Withdrawing f = omega arith
 
   one-more : (i : ℕ) → length (holders (suc i)) ≤ suc (length (holders i))
   unfolding quorums with-quorum
@@ -82,6 +86,7 @@ module _ (st : State) (range : Ranged st) (inv : Invariant st) (a : Amount) wher
       go Idle = omega arith
       go (Collecting q u m) = omega arith
       go (Holding q u) = either (λ f. length f ≤ suc (length (holders i))) (leb 1 (amount a u)) {x = q ∷ holders i} {y = holders i} (omega arith) (omega arith)
+      go Withdrawing = omega arith
 
   -- an arbiter in all their quorums has granted all that they hold
   all-granted : (j i : ℕ) → InAll (st .table) j (holders i) → heldBy a (st .phase) i ≤ total (λ s. amount a (st .arbiter j .granted s)) i
@@ -95,7 +100,7 @@ module _ (st : State) (range : Ranged st) (inv : Invariant st) (a : Amount) wher
       holder : (q : ℕ) (u : Units) → st .phase i ≡ Holding q u → InAll (st .table) j (q ∷ holders i)
           → (InAll (st .table) j (holders i) → heldBy a (st .phase) i ≤ total granted i) → amount a u + heldBy a (st .phase) i ≤ granted i + total granted i
       holder q u e (InAll.and belongs rest) before =
-          let mine = has-granted (rw (e, wants-holding (st .table) q u j, share-member (st .table) q u j belongs) at (inv .pairs i j)) in
+          let mine = has-granted (rw (e, wants-holding (st .table) (inv .leaving i) q u j, share-member (st .table) q u j belongs) at (inv .pairs i j)) in
           omega (arith, before rest, ap (amount a) mine)
 
       go : (p : Phase) → st .phase i ≡ p → InAll (st .table) j (with-quorum a p (holders i))
@@ -103,6 +108,7 @@ module _ (st : State) (range : Ranged st) (inv : Invariant st) (a : Amount) wher
           → amount a (held p) + heldBy a (st .phase) i ≤ granted i + total granted i
       go Idle e x before = omega (arith, amount-none a, before x)
       go (Collecting q u m) e x before = omega (arith, amount-none a, before x)
+      go Withdrawing e x before = omega (arith, amount-none a, before x)
       go (Holding q u) e x before =
           ⊎-elim (λ (t : leb 1 (amount a u) ≡ true). holder q u e (rw t at x) before)
           (λ (t : leb 1 (amount a u) ≡ false). omega (arith, leb-false 1 (amount a u) t, before (rw t at x)))

@@ -8,15 +8,16 @@ use Rattle.units.specs.Units.{noUnits}
 use Rattle.units.specs.declared.Units.{Units}
 use Rattle.plain.specs.Answer.{Answer, refused, done}
 use Rattle.plain.specs.Down.{takenAt, enters, downPassesOf, downRefusal, receivedAs, received, entering, down}
-use Rattle.plain.specs.Inner.Passed.{Requests, Delivers, Releases}
+use Rattle.plain.specs.Inner.Passed.{Requests, Delivers, Releases, Withdraws}
 use Rattle.plain.specs.Release.{somePasses, releaseRefusal, givenBack, released, held, release}
 use Rattle.plain.specs.Request.{requestPasses, requestRefusal, requested, request}
 use Rattle.plain.specs.Run.{Call, call}
 use Rattle.plain.specs.State.{State}
 use Rattle.plain.specs.Up.{upPasses, upRefusal, deliveredOf, delivered, up}
+use Rattle.plain.specs.Withdraw.{leavingPasses, withdrawRefusal, givenUp, withdrawn, withdraw}
 use Rattle.plain.specs.declared.Message.{Message}
 use Rattle.plain.proofs.Answered.{answered-as}
-use Rattle.plain.proofs.Passed.{requests, delivers, releases}
+use Rattle.plain.proofs.Passed.{requests, delivers, releases, withdraws}
 
 -- that a lane or line has room stands last, and apart from what else the call has passed
 pub record Each-call (P : Answer → Type 0) (st : State) : Type 0 where
@@ -27,9 +28,10 @@ pub record Each-call (P : Answer → Type 0) (st : State) : Type 0 where
   pub by-down : (s j : ℕ) (m : Message) (rest : List Message) → Delivers st s j (st .down s j) m rest → downPassesOf st s j m ≡ false
       → P (done (enters (takenAt st s j m)) noUnits (receivedAs st s j rest (takenAt st s j m)))
   pub by-release : (s q : ℕ) (h : Units) → Releases st s q h → somePasses st s q ≡ false → P (done noUnits h (givenBack st s q))
+  pub by-withdraw : (s q : ℕ) (h : Units) (m : ℕ) → Withdraws st s q h m → leavingPasses st s q m ≡ false → P (done noUnits noUnits (givenUp st s q m))
 
 pub each-call : (P : Answer → Type 0) (st : State) → Each-call P st → (c : Call) → P (call st c)
-unfolding call request up down release delivered received entering released
+unfolding call request up down release withdraw delivered received entering released withdrawn
 each-call P st e (Call.Request s q h) =
     answered-as st noUnits noUnits (requested st s q h) P (requestRefusal st s q h) (λ z. let (r, room) = requests st s q h z in e .by-request s q h r room) (e .is-refused (requestRefusal st s q h))
 each-call P st e (Call.Up s j) =
@@ -44,3 +46,7 @@ each-call P st e (Call.Release s) =
     answered-as st noUnits (held (st .phase s)) (released st s (st .phase s)) P (releaseRefusal st s)
     (λ z. let (q, h, r, room) = releases st s z in rw (r .holding) (e .by-release s q h r room))
     (e .is-refused (releaseRefusal st s))
+each-call P st e (Call.Withdraw s) =
+    answered-as st noUnits noUnits (withdrawn st s (st .phase s)) P (withdrawRefusal st s)
+    (λ z. let (q, h, m, w, room) = withdraws st s z in rw (w .collecting) (e .by-withdraw s q h m w room))
+    (e .is-refused (withdrawRefusal st s))

@@ -15,16 +15,17 @@ use Rattle.units.specs.Units.{noUnits, Amount, amount}
 use Rattle.units.specs.declared.Units.{Units}
 use Rattle.units.proofs.Amounts.{amount-none}
 use Rattle.plain.specs.Answer.{Answer}
-use Rattle.plain.specs.Down.{Taken, onward, taken, takenAt, enters, phaseThen, receivedAs}
+use Rattle.plain.specs.Down.{Taken, onward, taken, left, takenAt, enters, phaseThen, receivedAs}
 use Rattle.plain.specs.Release.{givenBack, held}
 use Rattle.plain.specs.Request.{lowest, requested}
-use Rattle.plain.specs.Run.{Call, call, run, after, entered, left, Difference}
+use Rattle.plain.specs.Run.{Call, call, run, after, entered, left as leftBy, Difference}
 use Rattle.plain.specs.State.{State, fresh}
 use Rattle.plain.specs.Up.{deliveredOf}
+use Rattle.plain.specs.Withdraw.{givenUp}
 use Rattle.plain.specs.declared.Message.{Message}
 use Rattle.plain.specs.declared.Phase.{Phase}
-use Rattle.plain.specs.declared.Phase.the-variants.{Idle, Collecting, Holding}
-use Rattle.plain.proofs.Approaching.{made-as}
+use Rattle.plain.specs.declared.Phase.the-variants.{Idle, Collecting, Holding, Withdrawing}
+use Rattle.plain.proofs.Approaching.{made-as, left-as}
 use Rattle.plain.proofs.Calls.{each-call}
 
 module _ (a : Amount) where
@@ -58,6 +59,7 @@ module _ (a : Amount) where
       go : (p : Phase) → st .phase s ≡ p → Entered st s (taken (st .table) j p)
       go Idle e = dropped st s
       go (Holding q h) e = dropped st s
+      go Withdrawing e = dropped st s
       go (Collecting q h m) e = asked (eqb m j) (ltb (lowestFrom (quorum (st .table) q) (suc j)) places) (lowestFrom (quorum (st .table) q) (suc j))
         where
           none : held (st .phase s) ≡ noUnits
@@ -68,11 +70,14 @@ module _ (a : Amount) where
           asked true false x = held-still (st .phase) s (st .n) (Holding q h) l none
           asked false c x = dropped st s
 
+  gone-balance : (st : State) (s : ℕ) → s < st .n → Entered st s (left (st .phase s))
+  gone-balance st s l = left-as (Entered st s) (st .phase s) (dropped st s) (λ w. held-still (st .phase) s (st .n) Idle l (rw w))
+
   message-balance : (st : State) (s j : ℕ) (m : Message) → s < st .n → Entered st s (takenAt st s j m)
-  message-balance st s j m l = made-as (Entered st s) (st .table) j (st .phase s) (dropped st s) (grant-balance st s j l) m
+  message-balance st s j m l = made-as (Entered st s) (st .table) j (st .phase s) (dropped st s) (grant-balance st s j l) (gone-balance st s l) m
 
   call-balance : (st : State) (c : Call) → Balanced st (call st c)
-  unfolding requested deliveredOf receivedAs givenBack
+  unfolding requested deliveredOf receivedAs givenBack givenUp
   call-balance st c =
       each-call (Balanced st) st
       (record {
@@ -83,12 +88,13 @@ module _ (a : Amount) where
         by-release = λ s q h r room.
             let mine : held (st .phase s) ≡ h = rw (r .holding) in
             omega (arith, amount-none a, ap (amount a) mine, held-at (st .phase) s (st .n) Idle (r .station));
+        by-withdraw = λ s q h m w room. omega (arith, amount-none a, held-still (st .phase) s (st .n) Withdrawing (w .station) (rw (w .collecting)));
       })
       c
 
   calls-balance : (st : State) (calls : List Call)
-      → entered a (run st calls) + heldBy (st .phase) (st .n) ≡ left a (run st calls) + heldBy (after st calls .phase) (after st calls .n)
-  unfolding run after entered left
+      → entered a (run st calls) + heldBy (st .phase) (st .n) ≡ leftBy a (run st calls) + heldBy (after st calls .phase) (after st calls .n)
+  unfolding run after entered leftBy
   calls-balance st [] = refl
   calls-balance st (c ∷ calls) = omega (arith, call-balance st c, calls-balance (call st c .state) calls)
 

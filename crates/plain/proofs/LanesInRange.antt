@@ -24,6 +24,11 @@ module _ {A : Type 0} (limit : ℕ) (f : A → Bool) where
       and-both (le-leb (length (l ++ more)) limit (ltb-false limit (length (l ++ more)) room))
       (all-append f l more (and-right (leb (length l) limit) (all f l) e) passed)
 
+  -- all of it, where it does not pass the limit
+  pub keeps-room : (l : List A) → all f l ≡ true → passes limit l ≡ false → keeps limit f l ≡ true
+  unfolding keeps
+  keeps-room l passed room = and-both (le-leb (length l) limit (ltb-false limit (length l) room)) passed
+
   -- less at the front
   pub keeps-rest : (l rest : List A) → keeps limit f (l ++ rest) ≡ true → keeps limit f rest ≡ true
   unfolding keeps

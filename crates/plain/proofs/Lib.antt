@@ -4,6 +4,9 @@ pub mod Serving
 pub mod Arriving
 pub mod Approaching
 pub mod Releasing
+pub mod Withdrawing
+pub mod Replying
+pub mod Dropping
 pub mod Range
 pub mod Answered
 pub mod Passed
@@ -14,7 +17,10 @@ pub mod LanesInRange
 pub mod ArbitersInRange
 pub mod StaysInRange
 pub mod Invariant
+pub mod InvariantKept
 pub mod Held
+pub mod Withdrawn
+pub mod UnderWay
 pub mod SameTable
 pub mod Bound
 pub mod Visiting
@@ -26,3 +32,5 @@ pub mod ServiceExamples
 pub mod StationExamples
 pub mod RefusalExamples
 pub mod RangeExamples
+pub mod WithdrawExamples
+pub mod WithdrawHandMade

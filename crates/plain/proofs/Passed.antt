@@ -14,16 +14,17 @@ use Rattle.units.specs.declared.Units.{Units}
 use Rattle.plain.specs.Answer.{Answer, refused, done, answered}
 use Rattle.plain.specs.Delivery.{deliveryTests, deliveryRefusal}
 use Rattle.plain.specs.Down.{enters, takenAt, downPassesOf, downTests, receivedAs, received, entering, down}
-use Rattle.plain.specs.Inner.Passed.{Requests, Delivers, Releases}
+use Rattle.plain.specs.Inner.Passed.{Requests, Delivers, Releases, Withdraws}
 use Rattle.plain.specs.InRange.{inRange}
 use Rattle.plain.specs.Lanes.{isEmpty, oldest, noPlace}
 use Rattle.plain.specs.Release.{isHolding, somePasses, backPasses, releaseTests, releaseRefusal, givenBack, released, held, release}
 use Rattle.plain.specs.Request.{isIdle, requestPasses, requestTests, requestRefusal, requested, request}
 use Rattle.plain.specs.State.{State}
 use Rattle.plain.specs.Up.{upPasses, upTests, deliveredOf, delivered, up}
+use Rattle.plain.specs.Withdraw.{isCollecting, leavingPasses, withdrawPasses, withdrawTests, withdrawRefusal, givenUp, withdrawn, withdraw}
 use Rattle.plain.specs.declared.Message.{Message}
 use Rattle.plain.specs.declared.Phase.{Phase}
-use Rattle.plain.specs.declared.Phase.the-variants.{Idle, Collecting, Holding}
+use Rattle.plain.specs.declared.Phase.the-variants.{Idle, Collecting, Holding, Withdrawing}
 use Rattle.plain.proofs.Answered.{answered-done, answered-refused}
 
 -- what is true is no broken test
@@ -36,6 +37,7 @@ pub is-idle : (p : Phase) → not (isIdle p) ≡ false → p ≡ Idle
 is-idle Idle e = refl
 is-idle (Collecting q h m) e = absurd (clash refl e)
 is-idle (Holding q h) e = absurd (clash refl e)
+is-idle Withdrawing e = absurd (clash refl e)
 
 module _ (st : State) (s q : ℕ) (h : Units) where
   pub requests : requestRefusal st s q h ≡ 0 → Requests st s q h × (requestPasses st s q h ≡ false)
@@ -135,6 +137,7 @@ is-holding : (st : State) (s : ℕ) (p : Phase) → not (isHolding p) ≡ false 
 is-holding st s Idle e room = absurd (clash refl e)
 is-holding st s (Collecting q h m) e room = absurd (clash refl e)
 is-holding st s (Holding q h) e room = (q, h, refl, room)
+is-holding st s Withdrawing e room = absurd (clash refl e)
 
 module _ (st : State) (s : ℕ) where
   pub releases : releaseRefusal st s ≡ 0 → (q : ℕ) × (h : Units) × Releases st s q h × (somePasses st s q ≡ false)
@@ -160,3 +163,37 @@ module _ (st : State) (s : ℕ) where
     release-done room =
         answered-done st noUnits (held (st .phase s)) (released st s (st .phase s)) (releaseTests st s) (kept-both 3 (releaseTests st s) release-kept (rw (r .holding) room, tt))
         ∙ rw (r .holding)
+
+-- ---- Withdraw
+
+is-collecting : (st : State) (s : ℕ) (p : Phase) → not (isCollecting p) ≡ false → withdrawPasses st s p ≡ false
+    → (q : ℕ) × (h : Units) × (m : ℕ) × (p ≡ Collecting q h m) × (leavingPasses st s q m ≡ false)
+is-collecting st s Idle e room = absurd (clash refl e)
+is-collecting st s (Collecting q h m) e room = (q, h, m, refl, room)
+is-collecting st s (Holding q h) e room = absurd (clash refl e)
+is-collecting st s Withdrawing e room = absurd (clash refl e)
+
+module _ (st : State) (s : ℕ) where
+  pub withdraws : withdrawRefusal st s ≡ 0 → (q : ℕ) × (h : Units) × (m : ℕ) × Withdraws st s q h m × (leavingPasses st s q m ≡ false)
+  unfolding withdrawRefusal
+  withdraws e =
+      let (a, (b, (c, (d, end)))) = passes-kept (withdrawTests st s) refl e in
+      let (q, h, m, collecting, room) = is-collecting st s (st .phase s) c d in
+      (q, h, m, record { range = not-false (inRange st) a; station = leb-false (st .n) s b; collecting = collecting }, room)
+
+  pub withdraw-refused : (i : ℕ) → BrokenAt i (withdrawTests st s) → ltb 0 (numberAt i (withdrawTests st s)) ≡ true → withdraw st s ≡ refused st (numberAt i (withdrawTests st s))
+  unfolding withdraw withdrawRefusal
+  withdraw-refused i b n = answered-refused st noUnits noUnits (withdrawn st s (st .phase s)) i (withdrawTests st s) b n
+
+  module _ {q : ℕ} {h : Units} {m : ℕ} (w : Withdraws st s q h m) where
+    withdraw-kept : Kept (take 3 (withdrawTests st s))
+    withdraw-kept = (range-kept (w .range), (lt-leb (st .n) s (w .station), (rw (w .collecting), tt)))
+
+    pub withdraw-full : leavingPasses st s q m ≡ true → withdraw st s ≡ refused st noPlace
+    withdraw-full full = withdraw-refused 3 (withdraw-kept, rw (w .collecting) full) refl
+
+    pub withdraw-done : leavingPasses st s q m ≡ false → withdraw st s ≡ done noUnits noUnits (givenUp st s q m)
+    unfolding withdraw withdrawRefusal withdrawn
+    withdraw-done room =
+        answered-done st noUnits noUnits (withdrawn st s (st .phase s)) (withdrawTests st s) (kept-both 3 (withdrawTests st s) withdraw-kept (rw (w .collecting) room, tt))
+        ∙ rw (w .collecting)

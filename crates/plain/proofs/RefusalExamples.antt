@@ -18,7 +18,7 @@ use Rattle.plain.specs.Lanes.{keeps}
 use Rattle.plain.specs.Release.{releasing, releaseRefusal, givenBack, released, release}
 use Rattle.plain.specs.Request.{requestRefusal, requested, request}
 use Rattle.plain.specs.State.{State, fresh}
-use Rattle.plain.specs.Up.{up, granting, deliveredOf, delivered}
+use Rattle.plain.specs.Up.{up, replying, granting, deliveredOf, delivered}
 use Rattle.plain.specs.Updates.{withPhase, withUp, withDown}
 use Rattle.plain.specs.declared.Message.{Message}
 use Rattle.plain.specs.declared.Message.the-variants.{Release, Grant}
@@ -69,5 +69,5 @@ pub in-order :
     ∷ (19 ∷ 8 ∷ 8 ∷ 13 ∷ 13 ∷ [])
     ∷ (19 ∷ 8 ∷ 12 ∷ 12 ∷ 14 ∷ [])
     ∷ [])
-unfolding brokenLimit member lowestAmong lowestFrom at total fresh answered arrived fits serve unitsIn onward taken receivedAs received entering down goesUp goesDown keeps phaseIn entryIn arbiterIn inRange releasing releaseRefusal givenBack released release requestRefusal requested request granting deliveryRefusal deliveredOf delivered up unitsOf stockOf requestIn grantIn askedWith
+unfolding brokenLimit member lowestAmong lowestFrom at total fresh answered arrived fits serve unitsIn onward taken receivedAs received entering down goesUp goesDown keeps phaseIn entryIn arbiterIn inRange releasing releaseRefusal givenBack released release requestRefusal requested request replying granting deliveryRefusal deliveredOf delivered up unitsOf stockOf requestIn grantIn askedWith
 in-order = refl

@@ -8,6 +8,7 @@ use Rattle.plain.specs.Request.{requested}
 use Rattle.plain.specs.Run.{Call, call, after}
 use Rattle.plain.specs.State.{State}
 use Rattle.plain.specs.Up.{deliveredOf}
+use Rattle.plain.specs.Withdraw.{givenUp}
 use Rattle.plain.proofs.Calls.{each-call}
 
 pub record Same-table (st next : State) : Type 0 where
@@ -19,7 +20,7 @@ same : (st : State) → Same-table st st
 same st = record { n = refl; stock = refl; table = refl }
 
 pub call-same : (st : State) (c : Call) → Same-table st (call st c .state)
-unfolding requested deliveredOf receivedAs givenBack
+unfolding requested deliveredOf receivedAs givenBack givenUp
 call-same st c =
     each-call (λ a. Same-table st (a .state)) st
     (record {
@@ -28,6 +29,7 @@ call-same st c =
       by-up = λ s j m rest d room. record { n = refl; stock = refl; table = refl };
       by-down = λ s j m rest d room. record { n = refl; stock = refl; table = refl };
       by-release = λ s q h r room. record { n = refl; stock = refl; table = refl };
+      by-withdraw = λ s q h m w room. record { n = refl; stock = refl; table = refl };
     })
     c
 

@@ -20,7 +20,7 @@ use Rattle.plain.specs.Release.{releasing, releaseRefusal, givenBack, re
 use Rattle.plain.specs.Request.{requestRefusal, requested, request}
 use Rattle.plain.specs.Run.{Call, call, run}
 use Rattle.plain.specs.State.{State, fresh}
-use Rattle.plain.specs.Up.{granting, deliveredOf, delivered, up}
+use Rattle.plain.specs.Up.{replying, granting, deliveredOf, delivered, up}
 use Rattle.plain.specs.Updates.{withUp}
 use Rattle.plain.specs.declared.Entry.{Entry}
 use Rattle.plain.specs.declared.Message.{Message}
@@ -54,7 +54,7 @@ pub strictly-from-the-first :
     ∷ Call.Down 2 0
     ∷ []))
     ≡ done ∷ done ∷ done ∷ done ∷ done ∷ done ∷ refuses 13 ∷ refuses 13 ∷ enters 2 ∷ leaves 2 ∷ done ∷ enters 2 ∷ enters 1 ∷ []
-unfolding brokenLimit member lowestAmong lowestFrom at total fresh answered arrived fits serve unitsIn onward taken receivedAs received entering down goesUp goesDown keeps phaseIn entryIn arbiterIn inRange releasing releaseRefusal givenBack released release requestRefusal requested request call run granting deliveryRefusal deliveredOf delivered up unitsOf stockOf requestIn grantIn askedWith
+unfolding brokenLimit member lowestAmong lowestFrom at total fresh answered arrived fits serve unitsIn onward taken receivedAs received entering down goesUp goesDown keeps phaseIn entryIn arbiterIn inRange releasing releaseRefusal givenBack released release requestRefusal requested request call run replying granting deliveryRefusal deliveredOf delivered up unitsOf stockOf requestIn grantIn askedWith
 strictly-from-the-first = refl
 
 -- Of two that wait for the only unit the older is granted first.
@@ -73,7 +73,7 @@ pub oldest-first :
     ∷ Call.Down 2 0
     ∷ []))
     ≡ done ∷ done ∷ done ∷ done ∷ done ∷ done ∷ enters 1 ∷ leaves 1 ∷ done ∷ refuses 13 ∷ enters 1 ∷ []
-unfolding brokenLimit member lowestAmong lowestFrom at total fresh answered arrived fits serve unitsIn onward taken receivedAs received entering down goesUp goesDown keeps phaseIn entryIn arbiterIn inRange releasing releaseRefusal givenBack released release requestRefusal requested request call run granting deliveryRefusal deliveredOf delivered up unitsOf stockOf requestIn grantIn askedWith
+unfolding brokenLimit member lowestAmong lowestFrom at total fresh answered arrived fits serve unitsIn onward taken receivedAs received entering down goesUp goesDown keeps phaseIn entryIn arbiterIn inRange releasing releaseRefusal givenBack released release requestRefusal requested request call run replying granting deliveryRefusal deliveredOf delivered up unitsOf stockOf requestIn grantIn askedWith
 oldest-first = refl
 
 -- Up on states made by hand, one station, one arbiter
@@ -105,5 +105,5 @@ pub by-hand :
     ∷ record { answer = refuses 14; phase = Idle; granted = noUnits; line = replicate 12 (entry 0 200); up = Request (unitsOf 1) ∷ []; down = [] }
     ∷ record { answer = done; phase = Idle; granted = unitsOf 200; line = replicate 11 (entry 0 200); up = []; down = Grant ∷ [] }
     ∷ [])
-unfolding brokenLimit member lowestAmong lowestFrom at total fresh answered arrived fits serve unitsIn goesUp goesDown keeps phaseIn entryIn arbiterIn inRange granting deliveryRefusal deliveredOf delivered up unitsOf stockOf requestIn grantIn askedWith
+unfolding brokenLimit member lowestAmong lowestFrom at total fresh answered arrived fits serve unitsIn goesUp goesDown keeps phaseIn entryIn arbiterIn inRange replying granting deliveryRefusal deliveredOf delivered up unitsOf stockOf requestIn grantIn askedWith
 by-hand = refl

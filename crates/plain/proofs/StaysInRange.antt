@@ -1,7 +1,7 @@
 -- A fresh state is in range, and a call keeps a state in range.
 -- Assumes nothing.
 use mathlib.Core.Bool.{Bool, true, false, cond, _&&_}
-use mathlib.Core.List.{List, [], _∷_}
+use mathlib.Core.List.{List, [], _∷_, _++_}
 use mathlib.Core.Logic.{by-cases, ⊎-elim}
 use mathlib.Core.Path.{_≡_, refl}
 use Prim.Native.Nat.{ℕ, suc, _<_}
@@ -10,9 +10,9 @@ use lib.Dec.{eqb, ltb}
 use lib.ListN.{length}
 use borrow.Author.Tests.{eq-eqb, ne-eqb, lt-ltb, ltb-true}
 use Rattle.lists.specs.At.{at, at2}
-use Rattle.lists.specs.Search.{someBelow}
+use Rattle.lists.specs.Search.{all, someBelow}
 use Rattle.lists.proofs.Changed.{at-all, at2-all}
-use Rattle.lists.proofs.Searches.{every-true, some-never}
+use Rattle.lists.proofs.Searches.{every-true, some-never, all-append}
 use Rattle.lists.proofs.Tests.{known, and-left, and-right, and-both, or-none}
 use Rattle.stations.specs.Member.{member}
 use Rattle.stations.specs.Sets.{lowestFrom}
@@ -23,25 +23,28 @@ use Rattle.units.specs.declared.Units.{Units}
 use Rattle.units.proofs.Ranges.{none-granted}
 use Rattle.plain.specs.Arbiter.{unitsIn, grantsTo}
 use Rattle.plain.specs.Down.{Taken, onward, taken, madeOf, takenAt, downPasses, downPassesOf, receivedAs}
-use Rattle.plain.specs.Inner.Passed.{Requests, Delivers, Releases}
+use Rattle.plain.specs.Inner.Passed.{Requests, Delivers, Releases, Withdraws}
 use Rattle.plain.specs.InRange.{goesUp, upLane, downLane, phaseIn, arbiterIn, inRange, goesDown}
 use Rattle.plain.specs.Lanes.{downPlaces, linePlaces, passes, sent, upPlaces, keeps}
-use Rattle.plain.specs.Release.{releasing, releasePasses, somePasses, givenBack}
+use Rattle.plain.specs.Release.{releasing, releasePasses, anyPasses, somePasses, givenBack}
 use Rattle.plain.specs.Request.{lowest, requestPasses, requested}
 use Rattle.plain.specs.Run.{Call, call, after}
 use Rattle.plain.specs.State.{State, fresh}
-use Rattle.plain.specs.Up.{arrivedAt, servedAt, granting, upPasses, deliveredOf}
+use Rattle.plain.specs.Up.{arrivedAt, servedAt, replying, granting, grantedAt, upPasses, deliveredOf}
+use Rattle.plain.specs.Withdraw.{below, withdrawing, leavingPasses, givenUp}
 use Rattle.plain.specs.declared.Message.{Message}
-use Rattle.plain.specs.declared.Message.the-variants.{Request, Release}
+use Rattle.plain.specs.declared.Message.the-variants.{Request, Release, Withdraw}
 use Rattle.plain.specs.declared.Phase.{Phase}
-use Rattle.plain.specs.declared.Phase.the-variants.{Idle, Collecting, Holding}
-use Rattle.plain.proofs.Approaching.{made-as, onward-as, first-member}
+use Rattle.plain.specs.declared.Phase.the-variants.{Idle, Collecting, Holding, Withdrawing}
+use Rattle.plain.proofs.Approaching.{made-as, left-as, onward-as, first-member}
 use Rattle.plain.proofs.ArbitersInRange.{arbiter-facts, facts-arbiter, arrived-in, served-in}
 use Rattle.plain.proofs.Calls.{each-call}
-use Rattle.plain.proofs.LanesInRange.{keeps-more, keeps-rest, keeps-first, grants-down}
+use Rattle.plain.proofs.LanesInRange.{keeps-more, keeps-room, keeps-rest, keeps-all, keeps-first, grants-down}
 use Rattle.plain.proofs.Range.{Ranged, ranged, in-range}
 use Rattle.plain.proofs.Releasing.{releasing-member, releasing-other}
+use Rattle.plain.proofs.Replying.{replying-other, replying-down}
 use Rattle.plain.proofs.Runs.{after-keeps}
+use Rattle.plain.proofs.Withdrawing.{approached-below}
 
 fresh-ranged : (n : ℕ) (stock : Units) (table : List ℕ) → brokenLimit n (askedWith stock) table ≡ 0 → Ranged (fresh n stock table)
 unfolding fresh phaseIn arbiterIn keeps
@@ -82,7 +85,7 @@ module _ (st : State) (s j : ℕ) (m : Message) (rest : List Message) (d : Deliv
   lane = rw (d .taken) at (g .ups s (d .station) j (d .arbiter))
 
   room : (passes linePlaces (arrivedAt st s j m .line) ≡ false)
-      × (someBelow (λ t. passes downPlaces (granting (st .down) j (servedAt st s j m .grants) t j)) (st .n) ≡ false)
+      × (someBelow (λ t. passes downPlaces (grantedAt st s j m t j)) (st .n) ≡ false)
   room = or-none _ _ passes-not
 
   arbiter-in : arbiterIn (st .n) (st .stock) (servedAt st s j m .arbiter) ≡ true
@@ -92,13 +95,15 @@ module _ (st : State) (s j : ℕ) (m : Message) (rest : List Message) (d : Deliv
       (arrived-in (st .n) (st .stock) m s (st .arbiter j) (d .station) (keeps-first upPlaces (goesUp (st .stock)) m rest lane) (room .0)
       (arbiter-facts (st .n) (st .stock) (st .arbiter j) (g .arbiters j (d .arbiter)))))
 
-  granting-in : (t : ℕ) → t < st .n → (x : ℕ) → x < st .n → downLane (granting (st .down) j (servedAt st s j m .grants) t x) ≡ true
+  granting-in : (t : ℕ) → t < st .n → (x : ℕ) → x < st .n → downLane (grantedAt st s j m t x) ≡ true
   unfolding granting
   granting-in t l x b =
+      let all-down : (u : ℕ) → u < st .n → all goesDown (st .down u j) ≡ true = λ u c. keeps-all downPlaces goesDown (st .down u j) (g .downs u c j (d .arbiter)) in
       by-cases (ℕ-discrete x j)
-      (λ (e : x ≡ j). rw (e, eq-eqb j j refl) (keeps-more downPlaces goesDown (st .down t j) (grantsTo t (servedAt st s j m .grants)) (g .downs t l j (d .arbiter))
-      (grants-down (unitsIn t (servedAt st s j m .grants))) (rw (eq-eqb j j refl) at (some-never _ (st .n) (room .1) t l))))
-      (λ (o : x ≡ j → ⊥). rw (ne-eqb x j o) (g .downs t l x b))
+      (λ (e : x ≡ j). rw (e, eq-eqb j j refl) (keeps-room downPlaces goesDown (replying m (st .down) s j t j ++ grantsTo t (servedAt st s j m .grants))
+      (all-append goesDown (replying m (st .down) s j t j) (grantsTo t (servedAt st s j m .grants)) (replying-down (st .down) s j m t j (all-down s (d .station)) (all-down t l))
+      (grants-down (unitsIn t (servedAt st s j m .grants)))) (rw (eq-eqb j j refl) at (some-never _ (st .n) (room .1) t l))))
+      (λ (o : x ≡ j → ⊥). rw (ne-eqb x j o, replying-other (st .down) s j m t x (λ z e. o e)) (g .downs t l x b))
 
   up-ranged : Ranged (deliveredOf st s j m rest)
   unfolding deliveredOf
@@ -113,10 +118,11 @@ module _ (st : State) (s j : ℕ) (m : Message) (rest : List Message) (d : Deliv
 
 -- ---- Down
 
--- what a station makes of a GRANT is in range
+-- what a station makes of a message is in range
 takenIn : ℕ → Units → List ℕ → Taken → Bool
 takenIn n stock table (Taken.asks q h m) = phaseIn n stock table (Collecting q h m)
 takenIn n stock table (Taken.holds q h) = phaseIn n stock table (Holding q h)
+takenIn n stock table Taken.idles = true
 takenIn n stock table Taken.drops = true
 
 onward-in : (n : ℕ) (stock : Units) (table : List ℕ) → brokenLimit n (askedWith stock) table ≡ 0 → (q : ℕ) (h : Units) (j : ℕ) → ltb q (length table) ≡ true → requestIn stock h ≡ true → takenIn n stock table (onward table q h j) ≡ true
@@ -140,10 +146,11 @@ taken-in n stock table kept j (Collecting q h m) e = go (eqb m j)
     go true = onward-in n stock table kept q h j exists units
     go false = refl
 taken-in n stock table kept j (Holding q h) e = refl
+taken-in n stock table kept j Withdrawing e = refl
 
 made-in : (n : ℕ) (stock : Units) (table : List ℕ) → brokenLimit n (askedWith stock) table ≡ 0 → (j : ℕ) (p : Phase) (m : Message) → phaseIn n stock table p ≡ true → takenIn n stock table (madeOf table j p m) ≡ true
 unfolding takenIn
-made-in n stock table kept j p m e = made-as (λ t. takenIn n stock table t ≡ true) table j p refl (taken-in n stock table kept j p e) m
+made-in n stock table kept j p m e = made-as (λ t. takenIn n stock table t ≡ true) table j p refl (taken-in n stock table kept j p e) (left-as (λ t. takenIn n stock table t ≡ true) p refl (λ w. refl)) m
 
 module _ (st : State) (s j : ℕ) (m : Message) (rest : List Message) (d : Delivers st s j (st .down s j) m rest) where
   in-range-before : Ranged st
@@ -178,6 +185,15 @@ module _ (st : State) (s j : ℕ) (m : Message) (rest : List Message) (d : Deliv
         ups = b .ups;
         downs = rest-in;
       }
+  taken-ranged Taken.idles e room =
+      let b = in-range-before in
+      record {
+        limits = b .limits;
+        phases = λ t l. at-all (λ p. phaseIn (st .n) (st .stock) (st .table) p ≡ true) (st .phase) s Idle refl t (b .phases t l);
+        arbiters = b .arbiters;
+        ups = b .ups;
+        downs = rest-in;
+      }
   taken-ranged Taken.drops e room =
       let b = in-range-before in
       record {
@@ -195,29 +211,54 @@ module _ (st : State) (s j : ℕ) (m : Message) (rest : List Message) (d : Deliv
 
 -- ---- Release
 
+-- RELEASE to the members of a set
+releasing-in : (st : State) (s set : ℕ) → Ranged st → s < st .n → anyPasses st s set ≡ false → (j : ℕ) → j < st .n → upLane (st .stock) (releasing set (st .up s) j) ≡ true
+unfolding goesUp
+releasing-in st s set b l room j c =
+    ⊎-elim
+    (λ (t : member set j ≡ true).
+    rw (releasing-member set (st .up s) j t)
+    (keeps-more upPlaces (goesUp (st .stock)) (st .up s j) (Release ∷ []) (b .ups s l j c) refl
+    (rw (t, releasing-member set (st .up s) j t) at (some-never (λ j. releasePasses set (st .up s) j) (st .n) room j c))))
+    (λ (f : member set j ≡ false). rw (releasing-other set (st .up s) j f) (b .ups s l j c))
+    (known (member set j))
+
 release-ranged : (st : State) (s q : ℕ) (h : Units) → Releases st s q h → somePasses st s q ≡ false → Ranged (givenBack st s q)
-unfolding givenBack phaseIn goesUp
+unfolding givenBack phaseIn
 release-ranged st s q h r room =
+    let b = ranged st (r .range) in
     record {
       limits = b .limits;
       phases = λ t l. at-all (λ p. phaseIn (st .n) (st .stock) (st .table) p ≡ true) (st .phase) s Idle refl t (b .phases t l);
       arbiters = b .arbiters;
-      ups = λ t l j c. at-all (λ row. upLane (st .stock) (row j) ≡ true) (st .up) s (releasing (quorum (st .table) q) (st .up s)) (row j c) t (b .ups t l j c);
+      ups = λ t l j c. at-all (λ row. upLane (st .stock) (row j) ≡ true) (st .up) s _ (releasing-in st s (quorum (st .table) q) b (r .station) room j c) t (b .ups t l j c);
+      downs = b .downs;
+    }
+
+-- ---- Withdraw
+
+withdraw-ranged : (st : State) (s q : ℕ) (h : Units) (m : ℕ) → Withdraws st s q h m → leavingPasses st s q m ≡ false → Ranged (givenUp st s q m)
+unfolding givenUp withdrawing phaseIn goesUp
+withdraw-ranged st s q h m w passes-not =
+    record {
+      limits = b .limits;
+      phases = λ t l. at-all (λ p. phaseIn (st .n) (st .stock) (st .table) p ≡ true) (st .phase) s Withdrawing refl t (b .phases t l);
+      arbiters = b .arbiters;
+      ups = λ t l j c. at-all (λ row. upLane (st .stock) (row j) ≡ true) (st .up) s _
+          (at-all (λ lane. upLane (st .stock) lane ≡ true) (releasing (below (quorum (st .table) q) m) (st .up s)) m (sent (st .up s m) Withdraw) last j
+          (releasing-in st s (below (quorum (st .table) q) m) b (w .station) (room .0) j c))
+          t (b .ups t l j c);
       downs = b .downs;
     }
   where
     b : Ranged st
-    b = ranged st (r .range)
+    b = ranged st (w .range)
 
-    row : (j : ℕ) → j < st .n → upLane (st .stock) (releasing (quorum (st .table) q) (st .up s) j) ≡ true
-    row j c =
-        ⊎-elim
-        (λ (t : member (quorum (st .table) q) j ≡ true).
-        rw (releasing-member (quorum (st .table) q) (st .up s) j t)
-        (keeps-more upPlaces (goesUp (st .stock)) (st .up s j) (Release ∷ []) (b .ups s (r .station) j c) refl
-        (rw (t, releasing-member (quorum (st .table) q) (st .up s) j t) at (some-never (λ j. releasePasses (quorum (st .table) q) (st .up s) j) (st .n) room j c))))
-        (λ (f : member (quorum (st .table) q) j ≡ false). rw (releasing-other (quorum (st .table) q) (st .up s) j f) (b .ups s (r .station) j c))
-        (known (member (quorum (st .table) q) j))
+    room : (anyPasses st s (below (quorum (st .table) q) m) ≡ false) × (passes upPlaces (sent (st .up s m) Withdraw) ≡ false)
+    room = or-none _ _ passes-not
+
+    last : upLane (st .stock) (sent (st .up s m) Withdraw) ≡ true
+    last = keeps-more upPlaces (goesUp (st .stock)) (st .up s m) (Withdraw ∷ []) (b .ups s (w .station) m (ltb-true m (st .n) (approached-below st s q h m w))) refl (room .1)
 
 -- ---- the theorem
 
@@ -235,6 +276,7 @@ call-in-range st c e =
       by-up = λ s j m rest d room. in-range (deliveredOf st s j m rest) (up-ranged st s j m rest d room);
       by-down = λ s j m rest d room. in-range (receivedAs st s j rest (takenAt st s j m)) (down-ranged st s j m rest d room);
       by-release = λ s q h r room. in-range (givenBack st s q) (release-ranged st s q h r room);
+      by-withdraw = λ s q h m w room. in-range (givenUp st s q m) (withdraw-ranged st s q h m w room);
     })
     c
 

@@ -29,7 +29,7 @@ use Rattle.plain.specs.Lanes.{downPlaces, passes, sent}
 use Rattle.plain.specs.Run.{Call, call}
 use Rattle.plain.specs.State.{State}
 use Rattle.plain.specs.Updates.{withArbiter, withUp, withDowns}
-use Rattle.plain.specs.Up.{servedAt, granting, upPasses, deliveredOf}
+use Rattle.plain.specs.Up.{servedAt, replying, granting, upPasses, deliveredOf}
 use Rattle.plain.specs.declared.Entry.{Entry}
 use Rattle.plain.specs.declared.Message.the-variants.{Request, Grant}
 use Rattle.plain.specs.declared.Phase.{Phase}
@@ -99,11 +99,11 @@ module _ (a : Amount) (st : State) (was : ℕ → Phase) (s p : ℕ) (h : Units)
       (λ (d : t ≡ s → ⊥). rw (grant-others t i (λ e x. d e)) refl)
 
   up-room : upPasses st s i (Request h) ≡ false
-  unfolding arrived after-service
+  unfolding arrived replying after-service
   up-room = rw (service, v .lines i) (not-true-false _ (λ t. let (x, l, full) = some-found _ (st .n) t in clash full (short x)))
 
   granted-done : call st (Call.Up s i) .state ≡ granted
-  unfolding call deliveredOf grantedTo after-service entry
+  unfolding call replying deliveredOf grantedTo after-service entry
   granted-done =
       ap (λ x. x .state) (up-done st s i (record { range = v .range; station = exists; arbiter = below; taken = lane }) up-room)
       ∙ rw service

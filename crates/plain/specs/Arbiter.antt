@@ -11,13 +11,21 @@ use Rattle.plain.specs.State.{Arbiter}
 use Rattle.plain.specs.Updates.{withGranted, withLine}
 use Rattle.plain.specs.declared.Entry.{Entry}
 use Rattle.plain.specs.declared.Message.{Message}
-use Rattle.plain.specs.declared.Message.the-variants.{Request, Release, Grant}
+use Rattle.plain.specs.declared.Message.the-variants.{Request, Release, Grant, Withdraw, Gone}
 
--- "REQUEST(h) joins the end of j's line. RELEASE sets s's granted units at j to 0." (No up lane in range has a GRANT.)
+-- "every line entry of that station" is dropped
+unfoldable pub without : ℕ → List Entry → List Entry
+without s [] = []
+without s (e ∷ line) = cond (eqb (e .station) s) (without s line) (e ∷ without s line)
+
+-- "REQUEST(h) joins the end of j's line. RELEASE sets s's granted units at j to 0." "On WITHDRAW the arbiter drops every line entry of that
+-- station and its grant" (No up lane in range has a GRANT or a GONE.)
 unfoldable pub arrived : Message → ℕ → Arbiter → Arbiter
 arrived (Request h) s a = withLine (sent (a .line) (record { station = s; units = h })) a
 arrived Release s a = withGranted s noUnits a
+arrived Withdraw s a = withGranted s noUnits (withLine (without s (a .line)) a)
 arrived Grant s a = a
+arrived Gone s a = a
 
 -- an arbiter after its line was served, and the entries that were granted, in their order
 pub record Served : Type 0 where

@@ -12,21 +12,25 @@ use Rattle.plain.specs.Lanes.{upPlaces, downPlaces, linePlaces, keeps}
 use Rattle.plain.specs.State.{Arbiter, State}
 use Rattle.plain.specs.declared.Entry.{Entry}
 use Rattle.plain.specs.declared.Message.{Message}
-use Rattle.plain.specs.declared.Message.the-variants.{Request, Release, Grant}
+use Rattle.plain.specs.declared.Message.the-variants.{Request, Release, Grant, Withdraw, Gone}
 use Rattle.plain.specs.declared.Phase.{Phase}
-use Rattle.plain.specs.declared.Phase.the-variants.{Idle, Collecting, Holding}
+use Rattle.plain.specs.declared.Phase.the-variants.{Idle, Collecting, Holding, Withdrawing}
 
--- "up lanes have only REQUEST and RELEASE", and "all other units 1 to k"
+-- "up lanes have only REQUEST and RELEASE", and "all other units 1 to k"; "A record in range may hold WITHDRAW in up lanes"
 unfoldable pub goesUp : Units → Message → Bool
 goesUp stock (Request h) = requestIn stock h
 goesUp stock Release = true
+goesUp stock Withdraw = true
 goesUp stock Grant = false
+goesUp stock Gone = false
 
--- "down lanes only GRANT"
+-- "down lanes only GRANT"; "GONE in down lanes"
 unfoldable pub goesDown : Message → Bool
 goesDown (Request h) = false
 goesDown Release = false
+goesDown Withdraw = false
 goesDown Grant = true
+goesDown Gone = true
 
 -- "lanes keep their limits"
 abbrev pub upLane : Units → List Message → Bool
@@ -35,11 +39,12 @@ upLane stock lane = keeps upPlaces (goesUp stock) lane
 abbrev pub downLane : List Message → Bool
 downLane lane = keeps downPlaces goesDown lane
 
--- "station and quorum numbers exist .. all other units 1 to k": a station
+-- "station and quorum numbers exist .. all other units 1 to k": a station; "withdrawing stations" have no numbers
 unfoldable pub phaseIn : ℕ → Units → List ℕ → Phase → Bool
 phaseIn n stock table Idle = true
 phaseIn n stock table (Collecting q h m) = ltb q (length table) && (requestIn stock h && ltb m n)
 phaseIn n stock table (Holding q h) = ltb q (length table) && requestIn stock h
+phaseIn n stock table Withdrawing = true
 
 -- the same of an entry in a line
 unfoldable pub entryIn : ℕ → Units → Entry → Bool

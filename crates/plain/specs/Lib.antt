@@ -10,6 +10,8 @@ pub mod Delivery
 pub mod Up
 pub mod Down
 pub mod Release
+pub mod Withdraw
 pub mod Run
+pub mod Withdrawn
 pub mod Exceeding
 pub mod Inner

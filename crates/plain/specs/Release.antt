@@ -18,9 +18,9 @@ use Rattle.plain.specs.Updates.{withPhase, withUps}
 use Rattle.plain.specs.declared.Message.{Message}
 use Rattle.plain.specs.declared.Message.the-variants.{Release}
 use Rattle.plain.specs.declared.Phase.{Phase}
-use Rattle.plain.specs.declared.Phase.the-variants.{Idle, Collecting, Holding}
+use Rattle.plain.specs.declared.Phase.the-variants.{Idle, Collecting, Holding, Withdrawing}
 
--- "RELEASE goes up to all members": the lanes up of a station that held the quorum q
+-- "RELEASE goes up to all members": the lanes up of a station, with RELEASE to the members of the set q
 unfoldable pub releasing : ℕ → (ℕ → List Message) → ℕ → List Message
 releasing q lanes j = cond (member q j) (sent (lanes j) Release) (lanes j)
 
@@ -28,20 +28,26 @@ releasing q lanes j = cond (member q j) (sent (lanes j) Release) (lanes j)
 abbrev pub releasePasses : ℕ → (ℕ → List Message) → ℕ → Bool
 releasePasses q lanes j = member q j && passes upPlaces (releasing q lanes j)
 
--- "a lane .. would pass its limit": of those to the members of the quorum that is held
+-- "a lane .. would pass its limit": of those to the members of a set
+abbrev pub anyPasses : State → ℕ → ℕ → Bool
+anyPasses st s set = someBelow (λ j. releasePasses set (st .up s) j) (st .n)
+
+-- of the quorum that is held
 abbrev pub somePasses : State → ℕ → ℕ → Bool
-somePasses st s q = someBelow (λ j. releasePasses (quorum (st .table) q) (st .up s) j) (st .n)
+somePasses st s q = anyPasses st s (quorum (st .table) q)
 
 -- none where the station holds nothing
 abbrev pub backPasses : State → ℕ → Phase → Bool
 backPasses st s Idle = false
 backPasses st s (Collecting q h m) = false
 backPasses st s (Holding q h) = somePasses st s q
+backPasses st s Withdrawing = false
 
 abbrev pub isHolding : Phase → Bool
 isHolding Idle = false
 isHolding (Collecting q h m) = false
 isHolding (Holding q h) = true
+isHolding Withdrawing = false
 
 -- 19; 8 "station or arbiter ≥ n"; 12 "station not holding"; 14
 abbrev pub releaseTests : State → ℕ → List Test
@@ -65,12 +71,14 @@ unfoldable pub released : State → ℕ → Phase → State
 released st s Idle = st
 released st s (Collecting q h m) = st
 released st s (Holding q h) = givenBack st s q
+released st s Withdrawing = st
 
 -- "its h units are left": the units that a station in this phase holds
 abbrev pub held : Phase → Units
 held Idle = noUnits
 held (Collecting q h m) = noUnits
 held (Holding q h) = h
+held Withdrawing = noUnits
 
 -- Release(s)
 unfoldable pub release : State → ℕ → Answer

@@ -15,12 +15,14 @@ use Rattle.plain.specs.InRange.{inRange}
 use Rattle.plain.specs.Lanes.{noPlace}
 use Rattle.plain.specs.State.{State}
 use Rattle.plain.specs.declared.Phase.{Phase}
-use Rattle.plain.specs.declared.Phase.the-variants.{Idle, Collecting, Holding}
+use Rattle.plain.specs.declared.Phase.the-variants.{Idle, Collecting, Holding, Withdrawing}
 
+-- "Request refuses a withdrawing station by 11"
 abbrev pub isIdle : Phase → Bool
 isIdle Idle = true
 isIdle (Collecting q h m) = false
 isIdle (Holding q h) = false
+isIdle Withdrawing = false
 
 -- "the lowest member" of the quorum q
 abbrev pub lowest : State → ℕ → ℕ

@@ -10,13 +10,15 @@ use Rattle.plain.specs.Release.{release}
 use Rattle.plain.specs.Request.{request}
 use Rattle.plain.specs.State.{State}
 use Rattle.plain.specs.Up.{up}
+use Rattle.plain.specs.Withdraw.{withdraw}
 
--- "Request, Up, Down and Release, with any numbers as arguments"
+-- "Request, Up, Down and Release, with any numbers as arguments"; "Lists with withdrawals"
 pub data Call : Type 0 where
   Request : (station quorum : ℕ) (units : Units) → Call
   Up : (station arbiter : ℕ) → Call
   Down : (station arbiter : ℕ) → Call
   Release : (station : ℕ) → Call
+  Withdraw : (station : ℕ) → Call
 
 -- the answer to one of them
 unfoldable pub call : State → Call → Answer
@@ -24,6 +26,7 @@ call st (Call.Request s q h) = request st s q h
 call st (Call.Up s j) = up st s j
 call st (Call.Down s j) = down st s j
 call st (Call.Release s) = release st s
+call st (Call.Withdraw s) = withdraw st s
 
 -- "goes on from the record that it returned last": the answers to a list of calls
 unfoldable pub run : State → List Call → List Answer

@@ -1,14 +1,17 @@
 // The plain machine: what messages, stations and lines are made of. The machine itself stands in the definitions.
 use units::Units;
 
-// REQUEST and RELEASE go up from a station to an arbiter, GRANT comes down.
+// REQUEST, RELEASE and WITHDRAW go up from a station to an arbiter, GRANT and GONE come down.
 pub enum Message {
     Request(Units),
     Release,
     Grant,
+    Withdraw,
+    Gone,
 }
 
-// What a station does: nothing, collect permission for so many units from the members of a quorum, or hold them.
+// What a station does: nothing, collect permission for so many units from the members of a quorum, hold them, or wait for GONE, having
+// withdrawn.
 pub enum Phase {
     Idle,
     Collecting {
@@ -20,6 +23,7 @@ pub enum Phase {
         quorum: u8,
         units: Units,
     },
+    Withdrawing,
 }
 
 // A place in an arbiter's line.

@@ -2,7 +2,7 @@
 -- Assumes nothing.
 use mathlib.Core.Bool.{Bool, true, false, not, _&&_, and-false}
 use mathlib.Core.List.{List}
-use mathlib.Core.Path.{_≡_, refl, _∙_}
+use mathlib.Core.Path.{_≡_, refl, sym, _∙_}
 use Prim.Native.Nat.{ℕ, _≤_, _<_}
 use native.Mathlib.Omega.{arith}
 use lib.Dec.{leb, eqb}
@@ -20,7 +20,7 @@ use Rattle.units.specs.Units.{noUnits, grantIn}
 use Rattle.units.specs.declared.Units.{Units}
 use Rattle.plain.specs.InRange.{goesUp, goesDown, entryIn, arbiterIn, phaseIn}
 use Rattle.plain.specs.Lanes.{linePlaces, keeps}
-use Rattle.plain.specs.declared.Message.the-variants.{Release, Grant}
+use Rattle.plain.specs.declared.Message.{Message}
 use Rattle.records.specs.Inner.Ranges.{goes, lanePlaces, laneIn, rowIn, lanesIn}
 use Rattle.records.specs.View.{noSlot, noLane, noRow, noEntry, noStation, noArbiter, messageOf, laneOf, rowOf, lanesOf, phasesOf, arbiterOf, arbitersOf}
 use Rattle.records.specs.declared.Arbiter.{Arbiter}
@@ -95,15 +95,13 @@ arbiters-in n stock arbiters = every-shown n _ (arbiterOf n) noArbiter (arbiterI
 
 -- ---- messages, and a table that is too long
 
-pub goes-release : (upward : Bool) (stock : Units) → upward ≡ goes upward stock Release
-unfolding goesUp goesDown
-goes-release true stock = refl
-goes-release false stock = refl
+pub only-up : (m : Message) (upward : Bool) (stock : Units) → goesUp stock m ≡ true → goesDown m ≡ false → upward ≡ goes upward stock m
+only-up m true stock u d = sym u
+only-up m false stock u d = sym d
 
-pub goes-grant : (upward : Bool) (stock : Units) → not upward ≡ goes upward stock Grant
-unfolding goesUp goesDown
-goes-grant true stock = refl
-goes-grant false stock = refl
+pub only-down : (m : Message) (upward : Bool) (stock : Units) → goesUp stock m ≡ false → goesDown m ≡ true → not upward ≡ goes upward stock m
+only-down m true stock u d = sym u
+only-down m false stock u d = sym d
 
 pub too-many-quorums : (n k quorums : ℕ) (table : List ℕ) → mostQuorums < quorums → eqb (brokenLimit n k (cut 0 quorums table)) 0 ≡ false
 too-many-quorums n k quorums table h =

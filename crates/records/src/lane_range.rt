@@ -29,6 +29,8 @@ fn message_goes(slot: Slot, stock: Units, upward: bool) -> bool
         }
         Message::Release => upward,
         Message::Grant => !upward,
+        Message::Withdraw => upward,
+        Message::Gone => !upward,
     }
 }
 

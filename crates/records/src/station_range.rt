@@ -42,6 +42,7 @@ fn phase_in(station: Station, n: usize, stock: Units, quorums: usize) -> bool
             wish_in(quorum, units, stock, quorums)
         }
         Phase::Holding { quorum, units } => wish_in(quorum, units, stock, quorums),
+        Phase::Withdrawing => true,
     }
 }
 

@@ -43,7 +43,7 @@ pub const EMPTY_LANE: u8 = 13;
 // a lane or line would pass its limit
 pub const NO_PLACE: u8 = 14;
 
-// a journal text, a record or a call not of the form
+// a journal text, a record or a call not of the form, or a number that is no message
 pub const BAD_FORM: u8 = 15;
 
 // an output buffer too short
@@ -57,3 +57,6 @@ pub const TOO_MANY_QUORUMS: u8 = 18;
 
 // a record out of range
 pub const OUT_OF_RANGE: u8 = 19;
+
+// withdraw: the station does not collect
+pub const NOT_COLLECTING: u8 = 20;

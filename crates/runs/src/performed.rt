@@ -38,6 +38,6 @@ pub(crate) fn run(p2: Record) {
     list(b"P11 and P12, performed", p2, &calls);
     short(b"refusal 16, performed", p2, &calls);
     let mut unknown = calls;
-    unknown[28] = 4;
+    unknown[28] = 5;
     short(b"refusal 15, performed", p2, &unknown);
 }

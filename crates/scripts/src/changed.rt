@@ -10,6 +10,8 @@ fn print_message(m: Message) {
         Message::Request(u) => report::number(b" REQUEST ", units::number_of(u) as usize),
         Message::Release => report::text(b" RELEASE"),
         Message::Grant => report::text(b" GRANT"),
+        Message::Withdraw => report::text(b" WITHDRAW"),
+        Message::Gone => report::text(b" GONE"),
     }
 }
 

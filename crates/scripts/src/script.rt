@@ -33,12 +33,15 @@ fn number_at(call: &[u8], at: usize) -> usize {
     value(call[at])
 }
 
-// The four calls, `request(0,0,1)`, `release(0)`, `down(0,0)` and `up(0,0)`, are told apart by their length.
+// The five calls, `request(0,0,1)`, `withdraw(0)`, `release(0)`, `down(0,0)` and `up(0,0)`, are told apart by their length.
 fn answer(r: Record, call: &[u8]) -> Answer {
     if call.len() == 14 {
         let s = number_at(call, 8);
         let q = number_at(call, 10);
         return calls::request(r, s, q, number_at(call, 12));
+    }
+    if call.len() == 11 {
+        return calls::withdraw(r, number_at(call, 9));
     }
     if call.len() == 10 {
         return calls::release(r, number_at(call, 8));

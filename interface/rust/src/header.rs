@@ -4,6 +4,7 @@
 use crate::raw;
 
 pub use raw::{Arrival, Checked, Made, Part, Printed, Read, Reply, Sum, Tallied, Written};
+pub use raw::{RELEASE, REQUEST, WITHDRAW};
 
 pub fn check(n: usize, k: usize, quorums: &[u16], scratch: &mut [u8]) -> Checked {
     // SAFETY: pointers and lengths are those of live slices, and the scratch is borrowed by this call alone.

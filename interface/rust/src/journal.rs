@@ -12,6 +12,7 @@ pub enum Do {
     Up = 1,
     Down = 2,
     Release = 3,
+    Withdraw = 4,
 }
 
 impl Do {
@@ -24,7 +25,7 @@ impl Do {
 impl Record {
     /// The word of its `what`. Every record that was read has one, and none is written without.
     pub fn word(&self) -> Option<Do> {
-        let words = [Do::Request, Do::Up, Do::Down, Do::Release];
+        let words = [Do::Request, Do::Up, Do::Down, Do::Release, Do::Withdraw];
         words.into_iter().find(|word| word.number() == self.what)
     }
 }

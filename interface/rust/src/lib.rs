@@ -2,7 +2,7 @@
 //! record, and the journal. What each answers is proved; this crate only passes slices and references on.
 //!
 //! ```
-//! use pafluzeno::{check, release, request, uniform, Arbiter, Refusal, MOST_QUORUMS, SCRATCH_BYTES};
+//! use pafluzeno::{check, release, request, uniform, withdraw, Arbiter, Refusal, MOST_QUORUMS, SCRATCH_BYTES};
 //! use pafluzeno::{page, read_line, read_record, tally, write_record, Do, Record, PAGE_ROOM};
 //!
 //! // five stations, two positions: a table, and whether it may be used
@@ -21,6 +21,10 @@
 //! assert_eq!(request(&mut arbiter, 2, 3, 2)?, 1 << 3);
 //! assert_eq!(request(&mut arbiter, 2, 1, 1)?, 0);
 //! assert_eq!(release(&mut arbiter, 2, 3)?, 1 << 1);
+//!
+//! // station 4 waits for both; station 1 withdraws, and GONE goes to it besides
+//! assert_eq!(request(&mut arbiter, 2, 4, 2)?, 0);
+//! assert_eq!(withdraw(&mut arbiter, 2, 1)?, 1 << 4);
 //!
 //! // the journal: each record is written behind the one before, and read from the text after it
 //! let asked = Record { what: Do::Request.number(), station: 3, units: 2, ..Record::default() };
@@ -139,7 +143,7 @@ pub fn request(
     let message = raw::Arrival {
         stock,
         station,
-        request: true,
+        message: raw::REQUEST,
         units,
     };
     tell(arbiter, message)
@@ -150,7 +154,19 @@ pub fn release(arbiter: &mut Arbiter, stock: usize, station: usize) -> Result<u1
     let message = raw::Arrival {
         stock,
         station,
-        request: false,
+        message: raw::RELEASE,
+        units: 0,
+    };
+    tell(arbiter, message)
+}
+
+/// A WITHDRAW reaches it. Where it is not refused, GONE is to be sent to that station besides; the set answered never has it, since none of its
+/// entries is left in the line.
+pub fn withdraw(arbiter: &mut Arbiter, stock: usize, station: usize) -> Result<u16, Refusal> {
+    let message = raw::Arrival {
+        stock,
+        station,
+        message: raw::WITHDRAW,
         units: 0,
     };
     tell(arbiter, message)

@@ -42,11 +42,18 @@ pub struct Arbiter {
     pub line: [Entry; MOST_STATIONS],
 }
 
+/// The messages that reach an arbiter, by number; any other is refused.
+pub const RELEASE: u8 = 0;
+pub const REQUEST: u8 = 1;
+pub const WITHDRAW: u8 = 2;
+
 #[repr(C)]
 pub struct Arrival {
     pub stock: usize,
     pub station: usize,
-    pub request: bool,
+    /// One of the numbers above.
+    pub message: u8,
+    /// The units of a REQUEST; in the others they mean nothing.
     pub units: usize,
 }
 
@@ -70,7 +77,7 @@ pub struct Part {
 pub struct Record {
     pub what: u16,
     pub station: u16,
-    /// The quorum of a request, the arbiter of up and down, 0 in a release.
+    /// The quorum of a request, the arbiter of up and down, 0 in a release and a withdrawal.
     pub with: u16,
     /// 0 except in a request.
     pub units: u16,

@@ -33,7 +33,7 @@ pub enum Refusal {
     EmptyLane = 13,
     /// a lane or line would pass its limit
     NoPlace = 14,
-    /// journal text or record not of the form
+    /// journal text or record not of the form, or a number that is no message
     BadForm = 15,
     /// output buffer too short
     ShortBuffer = 16,
@@ -43,10 +43,12 @@ pub enum Refusal {
     TooManyQuorums = 18,
     /// record out of range
     OutOfRange = 19,
+    /// withdraw: the station is not collecting
+    NotCollecting = 20,
 }
 
 impl Refusal {
-    const ALL: [Refusal; 19] = [
+    const ALL: [Refusal; 20] = [
         Refusal::BadStations,
         Refusal::BadStock,
         Refusal::BadLength,
@@ -66,13 +68,14 @@ impl Refusal {
         Refusal::NoCube,
         Refusal::TooManyQuorums,
         Refusal::OutOfRange,
+        Refusal::NotCollecting,
     ];
 
     pub fn number(self) -> u8 {
         self as u8
     }
 
-    /// The refusal of that number; 0 is none. No call answers a number above 19.
+    /// The refusal of that number; 0 is none. No call answers a number above 20.
     pub(crate) fn from_number(number: u8) -> Option<Refusal> {
         match number {
             0 => None,

@@ -4,7 +4,7 @@ use super::by_hand::{collecting, holding, lane, p2, waiting};
 use super::script::Out;
 use crate::machine::record::{Message, Record};
 
-use Message::{Grant, Release, Request};
+use Message::{Gone, Grant, Release, Request, Withdraw};
 
 /// Length of the lane and the message in all its places.
 const UP_LANES: [(usize, Message); 5] = [
@@ -55,17 +55,20 @@ fn message_name(message: Message) -> String {
     match message {
         Request(units) => format!("REQUEST {units}"),
         Release => String::from("RELEASE"),
+        Withdraw => String::from("WITHDRAW"),
         Grant => String::from("GRANT"),
+        Gone => String::from("GONE"),
     }
 }
 
-fn lanes(out: &mut Out) {
-    for (len, message) in UP_LANES {
+/// Lanes up and lanes down: so many messages in each, all alike.
+pub fn lanes(out: &mut Out, up: &[(usize, Message)], down: &[(usize, Message)]) {
+    for &(len, message) in up {
         let name = format!("up lane of {len} {}", message_name(message));
         let record = p2().with_up(2, 1, lane(len, message));
         out.call(&name, &record, "up(2,1)");
     }
-    for (len, message) in DOWN_LANES {
+    for &(len, message) in down {
         let name = format!("down lane of {len} {}", message_name(message));
         let record = p2().with_down(2, 1, lane(len, message));
         out.call(&name, &record, "down(2,1)");
@@ -112,7 +115,7 @@ pub fn run(out: &mut Out) {
         &no_stock,
         "19 before 8: request(3,0,1) up(3,0) down(0,3) release(3)",
     );
-    lanes(out);
+    lanes(out, &UP_LANES, &DOWN_LANES);
     arbiters(out);
     phases(out);
     sizes(out);

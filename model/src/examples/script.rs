@@ -1,7 +1,7 @@
 //! An example is a text: its name, a colon, and the machine's calls, one space before each.
 
 use crate::machine::record::Record;
-use crate::machine::{down, release, request, up, Answer};
+use crate::machine::{down, release, request, up, withdraw, Answer};
 
 /// The call that the text names, such as `request(0,0,1)`.
 pub fn call(record: &Record, text: &str) -> Answer {
@@ -18,6 +18,7 @@ pub fn call(record: &Record, text: &str) -> Answer {
         ("up", &[s, j]) => up(record, s, j),
         ("down", &[s, j]) => down(record, s, j),
         ("release", &[s]) => release(record, s),
+        ("withdraw", &[s]) => withdraw(record, s),
         _ => panic!("no call: {text}"),
     }
 }

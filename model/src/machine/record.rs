@@ -12,7 +12,9 @@ pub const MOST_DOWN: usize = 2;
 pub enum Message {
     Request(usize),
     Release,
+    Withdraw,
     Grant,
+    Gone,
 }
 
 /// Oldest first. A lane that claims to be too long is just that long here.
@@ -30,6 +32,8 @@ pub enum Phase {
         quorum: usize,
         units: usize,
     },
+    /// It keeps nothing else: what it waits for is GONE.
+    Withdrawing,
 }
 
 /// There are always places for twelve stations, of which the first n count. `up[s][j]` is the lane from station s to
@@ -71,7 +75,7 @@ impl Record {
     /// "station and quorum numbers exist"; the member now approached need not belong to the quorum.
     fn phase_fits(&self, phase: &Phase) -> bool {
         match *phase {
-            Phase::Idle => true,
+            Phase::Idle | Phase::Withdrawing => true,
             Phase::Collecting {
                 quorum,
                 units,
@@ -81,19 +85,20 @@ impl Record {
         }
     }
 
-    /// "up lanes have only REQUEST and RELEASE".
+    /// "up lanes have only REQUEST and RELEASE", and by document 02 WITHDRAW.
     fn up_fits(&self, lane: &Lane) -> bool {
         let fits = |message: &Message| match *message {
             Message::Request(units) => self.units_fit(units),
-            Message::Release => true,
-            Message::Grant => false,
+            Message::Release | Message::Withdraw => true,
+            Message::Grant | Message::Gone => false,
         };
         lane.len() <= MOST_UP && lane.iter().all(fits)
     }
 
-    /// "down lanes only GRANT".
+    /// "down lanes only GRANT", and by document 02 GONE.
     fn down_fits(&self, lane: &Lane) -> bool {
-        lane.len() <= MOST_DOWN && lane.iter().all(|m| *m == Message::Grant)
+        let fits = |m: &Message| matches!(m, Message::Grant | Message::Gone);
+        lane.len() <= MOST_DOWN && lane.iter().all(fits)
     }
 
     /// "Outside that: 19." Places of stations from n on do not belong to the record.

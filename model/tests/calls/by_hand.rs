@@ -99,16 +99,22 @@ fn a_bad_last_line() {
     assert_refused(&format!("{SIX_LINES}left=5"));
 }
 
-/// Every line is good by itself. Only a request has units, and a release is with nothing.
+/// Every line is good by itself. Only a request has units, and a release and a withdrawal are with nothing.
 #[test]
 fn lines_that_are_no_record() {
     let answer = "refused=12\nentered=3\nleft=4\n";
     let release = format!("do=release\nstation=1\nwith=0\nunits=0\n{answer}");
-    let read = header::read_record(release.as_bytes());
-    assert_eq!((read.refusal, read.taken), (0, release.len()));
+    let withdraw = release.replace("release", "withdraw");
+    for (text, what) in [(&release, 3), (&withdraw, 4)] {
+        let read = header::read_record(text.as_bytes());
+        assert_eq!((read.refusal, read.taken), (0, text.len()));
+        assert_eq!((read.record.what, read.record.with), (what, 0));
+    }
     for step in [
         "do=release\nstation=1\nwith=1\nunits=0\n",
         "do=release\nstation=1\nwith=0\nunits=1\n",
+        "do=withdraw\nstation=1\nwith=1\nunits=0\n",
+        "do=withdraw\nstation=1\nwith=0\nunits=1\n",
         "do=up\nstation=1\nwith=0\nunits=1\n",
         "do=down\nstation=1\nwith=0\nunits=1\n",
     ] {

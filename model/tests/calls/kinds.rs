@@ -28,11 +28,14 @@ fn some(rng: &mut Rng) -> usize {
     number(rng).max(1)
 }
 
+/// The numbers of release and withdraw, which are with nothing.
+const ALONE: [usize; 2] = [3, 4];
+
 /// A record of the form.
 pub fn good(rng: &mut Rng) -> Numbers {
     let mut record = [0; 7].map(|_| number(rng));
-    record[0] = rng.below(4);
-    if record[0] == 3 {
+    record[0] = rng.below(WORDS.len());
+    if ALONE.contains(&record[0]) {
         record[2] = 0;
     }
     if record[0] != 0 {
@@ -41,16 +44,19 @@ pub fn good(rng: &mut Rng) -> Numbers {
     record
 }
 
-/// One that is not: a release with something, or units where there are none.
+/// One that is not: a release or a withdrawal with something, or units where there are none.
 pub fn bad(rng: &mut Rng) -> Numbers {
     let mut record = good(rng);
     if rng.percent(40) {
-        record[0] = 3;
+        record[0] = rng.pick(&ALONE);
         record[2] = some(rng);
         record[3] = 0;
     } else {
-        record[0] = rng.between(1, 3);
-        record[2] = if record[0] == 3 { 0 } else { number(rng) };
+        record[0] = rng.between(1, WORDS.len() - 1);
+        record[2] = number(rng);
+        if ALONE.contains(&record[0]) {
+            record[2] = 0;
+        }
         record[3] = some(rng);
     }
     record
@@ -60,8 +66,8 @@ pub fn bad(rng: &mut Rng) -> Numbers {
 pub fn without_word(rng: &mut Rng) -> Numbers {
     let mut record = good(rng);
     record[0] = match rng.below(3) {
-        0 => rng.pick(&[4, 5, 7, 255, 65535]),
-        1 => rng.between(4, 65535),
+        0 => rng.pick(&[5, 6, 7, 8, 255, 65535]),
+        1 => rng.between(WORDS.len(), 65535),
         _ => 256 * rng.between(1, 255) + record[0],
     };
     record
@@ -140,7 +146,22 @@ fn at_byte(rng: &mut Rng, change: impl FnOnce(&mut Vec<u8>, usize, u8)) -> Vec<u
 fn word(rng: &mut Rng) -> Vec<u8> {
     let mut lines = lines(good(rng));
     let wrong = [
-        "", "Up", "ups", "u", "0", "1", "grant", "reques", "releases", "down ", "up=up",
+        "",
+        "Up",
+        "ups",
+        "u",
+        "0",
+        "1",
+        "4",
+        "grant",
+        "gone",
+        "reques",
+        "releases",
+        "down ",
+        "up=up",
+        "withdra",
+        "withdrawn",
+        "Withdraw",
     ];
     lines[0] = format!("do={}", rng.pick(&wrong));
     behind(rng, joined(&lines))

@@ -31,7 +31,8 @@ fn values() -> Vec<&'static [u8]> {
         |66000|70000|99999|100000|131072|655350|999999|4294967295|4294967296|4294967297|18446744073709551615\
         |18446744073709551616|18446744073709551617|340282366920938463463374607431768211457\
         |00|01|000|09|0000000000|065535|0000065535| |-1|-0|+1|+0| 1|1 |1\t|1\r|1\0|=1|1=|0x1|1e1|1.0|1,0|1_0\
-        |\xd9\xa1|/|:|5/|5:|request|up|down|release|Request|reques|requests|u|ups|UP|up | up|releas|releases|requestup",
+        |\xd9\xa1|/|:|5/|5:|request|up|down|release|withdraw|Request|reques|requests|u|ups|UP|up | up|releas|releases\
+        |requestup|Withdraw|withdra|withdraws|withdrawn|with|gone",
     )
 }
 
@@ -116,6 +117,7 @@ fn lines_by_bytes() {
     let mut met = Met::default();
     for line in [
         "do=release\n",
+        "do=withdraw\n",
         "do=up\n",
         "=7\n",
         "units=65535\n",

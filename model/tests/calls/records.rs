@@ -43,6 +43,7 @@ fn records_by_bytes() {
         [1, 11, 3, 0, 13, 0, 0],
         [2, 0, 65535, 0, 0, 200, 9],
         [3, 4, 0, 0, 12, 0, 65534],
+        [4, 10, 0, 0, 20, 0, 0],
     ] {
         let text = kinds::text(record);
         for at in 0..text.len() {
@@ -81,7 +82,8 @@ fn cut_records() {
 /// The words of the wrapper are those of the texts.
 #[test]
 fn words() {
-    let named = [Do::Request, Do::Up, Do::Down, Do::Release];
+    let named = [Do::Request, Do::Up, Do::Down, Do::Release, Do::Withdraw];
+    assert_eq!(named.len(), WORDS.len());
     for (what, (name, word)) in named.into_iter().zip(WORDS).enumerate() {
         let text = kinds::text([what, 1, 0, 0, 0, 0, 0]);
         assert!(text.starts_with(format!("do={word}\n").as_bytes()));
@@ -89,7 +91,7 @@ fn words() {
         assert_eq!((record.what, record.word()), (name.number(), Some(name)));
     }
     let none = pafluzeno::Record {
-        what: 4,
+        what: 5,
         ..Default::default()
     };
     assert_eq!(none.word(), None);

@@ -3,6 +3,7 @@
 use super::compare::{self, Met};
 use super::kinds;
 use model::rng::Rng;
+use model::text::WORDS;
 
 /// The comparisons of each test, at least.
 pub const ANYWHERE: usize = 60_000;
@@ -28,7 +29,7 @@ fn writes_anywhere() {
             2 => [0; 7].map(|_| rng.below(65536)),
             _ => kinds::good(&mut rng),
         };
-        let size = if record[0] < 4 {
+        let size = if record[0] < WORDS.len() {
             kinds::text(record).len()
         } else {
             60
@@ -50,7 +51,7 @@ fn writes_anywhere() {
 }
 
 /// Every place of every buffer of up to 159 bytes, and two past its end. The first record is the shortest, the second the
-/// longest, and the last two are not of the form.
+/// longest, and the last four are not of the form.
 #[test]
 fn writes_everywhere() {
     let mut met = Met::default();
@@ -61,8 +62,11 @@ fn writes_everywhere() {
         [0, 65535, 65535, 65535, 65535, 65535, 65535],
         [3, 12, 0, 0, 10, 0, 345],
         [2, 7, 10, 0, 13, 99, 100],
+        [4, 11, 0, 0, 20, 0, 0],
         [3, 0, 1, 0, 0, 0, 0],
-        [4, 0, 0, 0, 0, 0, 0],
+        [4, 0, 1, 0, 0, 0, 0],
+        [4, 0, 0, 1, 0, 0, 0],
+        [5, 0, 0, 0, 0, 0, 0],
     ] {
         for len in 0..160 {
             for at in 0..len + 3 {

@@ -4,11 +4,12 @@ use super::damaged_lines::{
     edit, lines_swapped, steps_before_the_table, value, wrong_key, wrong_word,
 };
 use super::lengths::{far_too_long, last_of_65536_damaged, of_length};
-use super::runs::{any_step, on_table, Met};
+use super::runs::{on_table, Met};
 use super::tables;
 use model::page::{table_lines, MOST_INPUT};
 use model::random;
 use model::rng::Rng;
+use model::steps::any_step;
 use model::text::{Do, Step};
 
 /// What the model must make of every text of a kind.
@@ -144,15 +145,17 @@ fn inserted(rng: &mut Rng, byte: u8) -> Vec<u8> {
 }
 
 fn cut_anywhere(rng: &mut Rng) -> Vec<u8> {
-    let mut text = base(rng).into_bytes();
-    text.truncate(rng.below(text.len()));
-    // Every other cut is at the end of a line, where the text may be good.
-    if rng.percent(50) {
-        while text.last().is_some_and(|&b| b != b'\n') {
-            text.pop();
-        }
-    }
-    text
+    let mut text = base(rng);
+    let cut = rng.below(text.len());
+    let at = match rng.below(3) {
+        0 => cut,
+        // At the end of a line, where the text may be good.
+        1 => text[..cut].rfind('\n').map_or(0, |end| end + 1),
+        // Where a step begins: it is good.
+        _ => text[..cut].rfind("do=").unwrap_or(cut),
+    };
+    text.truncate(at);
+    text.into_bytes()
 }
 
 fn cut_within_a_line(rng: &mut Rng) -> Vec<u8> {
@@ -184,29 +187,12 @@ fn bad_step(rng: &mut Rng) -> String {
     let good = any_step(rng, 3, 3, 3);
     let most = rng.pick(&[3, 65535]);
     let some = rng.between(1, most);
+    let alone = rng.pick(&[Do::Release, Do::Withdraw]);
     let bad = match rng.below(4) {
-        0 => Step {
-            what: Do::Release,
-            with: some,
-            units: 0,
-            ..good
-        },
-        1 => Step {
-            what: Do::Release,
-            with: 0,
-            units: some,
-            ..good
-        },
-        2 => Step {
-            what: Do::Up,
-            units: some,
-            ..good
-        },
-        _ => Step {
-            what: Do::Down,
-            units: some,
-            ..good
-        },
+        0 => Step::new(alone, good.station, some, 0),
+        1 => Step::new(alone, good.station, 0, some),
+        2 => Step::new(Do::Up, good.station, good.with, some),
+        _ => Step::new(Do::Down, good.station, good.with, some),
     };
     bad.lines()
 }

@@ -72,7 +72,20 @@ pub fn wrong_key(rng: &mut Rng) -> Vec<u8> {
 
 pub fn wrong_word(rng: &mut Rng) -> Vec<u8> {
     let wrong = rng.pick(&[
-        "", "Request", "releas", "releases", "ups", "u", "0", "grant", "request ", "DOWN",
+        "",
+        "Request",
+        "releas",
+        "releases",
+        "ups",
+        "u",
+        "0",
+        "grant",
+        "request ",
+        "DOWN",
+        "withdra",
+        "withdrawn",
+        "Withdraw",
+        "gone",
     ]);
     let text = base(rng);
     let mut lines = lines_of(&text);

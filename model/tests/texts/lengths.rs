@@ -1,8 +1,9 @@
 //! Texts of a given length, at the limit of 65,536 bytes and beyond it.
 
-use super::runs::{accepted, any_step, Met};
+use super::runs::{accepted, Met};
 use model::page::MOST_INPUT;
 use model::rng::Rng;
+use model::steps::any_step;
 use model::text::{Do, Step};
 
 /// A number of 0 to 65535 of just so many digits.

@@ -1,11 +1,16 @@
-//! Texts of runs that mostly take steps which the machine can take: the model's own record tells which.
+//! Texts of runs that mostly take steps which the machine can take.
 
-use model::machine::record::{Phase, Record};
+use model::machine::record::{Message, Record};
+use model::machine::Answer;
 use model::page::{table_lines, take_step, MOST_INPUT};
 use model::random;
 use model::rng::Rng;
+use model::steps::next_step;
 use model::text::{Do, Step};
 use std::collections::BTreeMap;
+
+/// So many steps in a hundred are to be withdrawals, so that most requests come to their end.
+const WITHDRAWALS: usize = 5;
 
 /// What the runs met, so that a generator that has gone quiet is noticed.
 #[derive(Default, Debug)]
@@ -17,93 +22,36 @@ pub struct Met {
     pub waited: usize,
     /// Ups that granted more than one request.
     pub served_together: usize,
+    /// Withdrawals, Ups that took a station out of a line, and those by which another was granted.
+    pub withdrawn: usize,
+    pub left_line: usize,
+    pub served_others: usize,
 }
 
-/// Now and then a number that no machine has.
-fn number(rng: &mut Rng, limit: usize) -> usize {
-    match rng.below(12) {
-        0 => rng.pick(&[12, 13, 64, 200, 255, 256, 257, 65535]),
-        1 => rng.below(65536),
-        _ => rng.below(limit),
-    }
+/// The GRANTs that are under way from an arbiter.
+fn grants(r: &Record, j: usize) -> usize {
+    let of = |s: usize| r.down[s][j].iter().filter(|&&m| m == Message::Grant);
+    (0..r.n).map(|s| of(s).count()).sum()
 }
 
-/// A step of the form with any numbers; most are refused.
-pub fn any_step(rng: &mut Rng, n: usize, k: usize, quorums: usize) -> Step {
-    let station = number(rng, n + 1);
-    match rng.pick(&Do::ALL) {
-        Do::Request => {
-            let with = number(rng, quorums + 1);
-            Step::new(Do::Request, station, with, number(rng, k + 2))
-        }
-        Do::Release => Step::new(Do::Release, station, 0, 0),
-        what => Step::new(what, station, number(rng, n + 1), 0),
-    }
-}
-
-/// Every delivery that there is something to deliver for.
-fn deliveries(r: &Record) -> Vec<Step> {
-    let mut found = Vec::new();
-    for s in 0..r.n {
-        for j in 0..r.n {
-            if !r.up[s][j].is_empty() {
-                found.push(Step::new(Do::Up, s, j, 0));
-            }
-            if !r.down[s][j].is_empty() {
-                found.push(Step::new(Do::Down, s, j, 0));
-            }
-        }
-    }
-    found
-}
-
-fn requests(rng: &mut Rng, r: &Record) -> Vec<Step> {
-    let idle = (0..r.n).filter(|&s| r.stations[s] == Phase::Idle);
-    idle.map(|s| {
-        let units = match rng.below(3) {
-            0 => rng.between(1, r.stock.min(2)),
-            1 => r.stock,
-            _ => rng.between(1, r.stock),
-        };
-        Step::new(Do::Request, s, rng.below(r.table.len()), units)
-    })
-    .collect()
-}
-
-fn releases(r: &Record) -> Vec<Step> {
-    let holding = (0..r.n).filter(|&s| matches!(r.stations[s], Phase::Holding { .. }));
-    holding.map(|s| Step::new(Do::Release, s, 0, 0)).collect()
-}
-
-/// Mostly a step that the record allows.
-fn next_step(rng: &mut Rng, r: &Record) -> Step {
-    if rng.percent(8) {
-        return any_step(rng, r.n, r.stock, r.table.len());
-    }
-    let mut kinds = [deliveries(r), requests(rng, r), releases(r)];
-    let first = match rng.below(100) {
-        0..=64 => 0,
-        65..=84 => 1,
-        _ => 2,
-    };
-    kinds.rotate_left(first);
-    match kinds.iter().find(|steps| !steps.is_empty()) {
-        Some(steps) => rng.pick(steps),
-        None => any_step(rng, r.n, r.stock, r.table.len()),
-    }
-}
-
-/// The requests that wait at an arbiter, and those that were served by the call.
-fn note(met: &mut Met, step: &Step, before: &Record, after: &Record) {
-    if step.what != Do::Up || step.with >= before.n {
+/// The requests that wait at an arbiter, those that were served by the call, and those that were withdrawn.
+fn note(met: &mut Met, step: &Step, before: &Record, answer: &Answer) {
+    let after = &answer.record;
+    if answer.refusal != 0 {
         return;
     }
-    let (old, new) = (&before.arbiters[step.with], &after.arbiters[step.with]);
-    if new.line.len() > old.line.len() {
-        met.waited += 1;
+    met.withdrawn += usize::from(step.what == Do::Withdraw);
+    if step.what != Do::Up {
+        return;
     }
-    if new.line.len() + 1 < old.line.len() {
-        met.served_together += 1;
+    let (s, j) = (step.station, step.with);
+    let (old, new) = (&before.arbiters[j], &after.arbiters[j]);
+    let served = grants(after, j) - grants(before, j);
+    met.waited += usize::from(new.line.len() > old.line.len());
+    met.served_together += usize::from(served > 1);
+    if before.up[s][j][0] == Message::Withdraw {
+        met.left_line += usize::from(old.line.iter().any(|e| e.station == s));
+        met.served_others += usize::from(served > 0);
     }
 }
 
@@ -114,14 +62,14 @@ pub fn steps(rng: &mut Rng, start: Record, most: usize, bytes: usize, met: &mut 
     let mut lines = String::new();
     let (mut entered, mut left) = (0, 0);
     for _ in 0..most {
-        let step = next_step(rng, &record);
+        let step = next_step(rng, &record, WITHDRAWALS);
         if lines.len() + step.lines().len() > bytes {
             break;
         }
         lines += &step.lines();
         let answer = take_step(&record, &step);
         *met.refusals.entry(answer.refusal).or_insert(0) += 1;
-        note(met, &step, &record, &answer.record);
+        note(met, &step, &record, &answer);
         met.entered += usize::from(answer.entered > 0);
         met.left += usize::from(answer.left > 0);
         entered += answer.entered;

@@ -1,9 +1,9 @@
 //! Texts of refused tables.
 
-use super::runs::any_step;
 use model::page::table_lines;
 use model::random;
 use model::rng::Rng;
+use model::steps::any_step;
 use model::table::{check, SCRATCH};
 
 /// Stations, stock and quorums.

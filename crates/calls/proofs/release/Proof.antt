@@ -57,7 +57,7 @@ give-back-requires c κs =
     let holding = c .before .p .given .1 in
     (record { range = range e; station = e .if2 .left; holding = phase-is e ∙ holding }, below e, omega (arith, holds r (range e) (start e .args .s) (e .if2 .left) holding, quorums-few r (range e)))
 
--- idle, or collecting
+-- idle, collecting or withdrawing
 returns-3 : tie.Need-returns-3
 returns-3 c =
     let e = c .before .before .before .before in
@@ -68,9 +68,14 @@ returns-4 c =
     let e = c .before .before .before .before in
     (c .refuse4 .ensures .0 ∙ sym (release-refused _ _ 2 (kept e, ap (λ (p : Phase). not (isHolding p)) (phase-is e ∙ c .before .enum-told2 .given .1)) refl), λ z. c .refuse4 .ensures .1)
 
+returns-6 : tie.Need-returns-6
+returns-6 c =
+    let e = c .before .before .before .before in
+    (c .refuse5 .ensures .0 ∙ sym (release-refused _ _ 2 (kept e, ap (λ (p : Phase). not (isHolding p)) (phase-is e ∙ c .before .enum-told3 .given .1)) refl), λ z. c .refuse5 .ensures .1)
+
 pub release-spec : {M : Type 1} → statement M
 release-spec =
     tie.close
     (tie.spec (λ c. search needs) (λ c. search needs) returns (λ c. search needs) (λ c. search needs) returns-2
     (λ c. omega (arith, below c)) (λ c. omega (arith, below c)) (λ c. search needs) (λ c. search needs) (λ c. search needs) (λ c. search needs) (λ c. search needs)
-    give-back-requires returns-3 returns-4 (λ c. search needs))
+    give-back-requires (λ c. search needs) (λ c. search needs) returns-3 returns-4 (λ c. search needs) returns-6)

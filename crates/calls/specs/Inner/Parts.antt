@@ -1,5 +1,5 @@
 -- What the parts of a call rely on, and what they promise to the call.
-use mathlib.Core.Bool.{true}
+use mathlib.Core.Bool.{Bool, true, false}
 use mathlib.Core.List.{List, [], _∷_}
 use mathlib.Core.Path.{_≡_}
 use Prim.Native.Nat.{ℕ, _≤_, _<_, _^_}
@@ -14,23 +14,34 @@ use Rattle.plain.specs.Answer.{Answer, answered}
 use Rattle.plain.specs.Asking.{askPasses, asking}
 use Rattle.plain.specs.Down.{Taken, takenAt}
 use Rattle.plain.specs.InRange.{inRange}
+use Rattle.plain.specs.Inner.Passed.{Withdraws}
 use Rattle.plain.specs.Lanes.{downPlaces, linePlaces, noPlace}
 use Rattle.plain.specs.State.{State}
 use Rattle.plain.specs.declared.Entry.{Entry}
 use Rattle.plain.specs.declared.Message.{Message}
+use Rattle.plain.specs.declared.Message.the-variants.{Request, Release, Grant, Withdraw, Gone}
 use Rattle.plain.specs.declared.Phase.{Phase}
 use Rattle.plain.specs.declared.Phase.the-variants.{Collecting}
 use Rattle.records.specs.View.{view}
 use Rattle.records.specs.declared.Record.{Record}
 use Rattle.arbiters.specs.Inner.Ready.{Named}
 
--- the first entries of a line can be told to their stations, by lanes that are in range
-pub record Sends (n j grants : ℕ) (line : List Entry) (lanes : ℕ → ℕ → List Message) : Type 0 where
+-- the first entries of a line can be told to their stations, and the sender s can be answered, by lanes that are in range
+pub record Sends (n s j grants : ℕ) (line : List Entry) (lanes : ℕ → ℕ → List Message) : Type 0 where
   pub few : n ≤ mostStations
+  pub station : s < n
   pub arbiter : j < n
   pub short : grants ≤ linePlaces
   pub named : Named n grants line
   pub room : (t : ℕ) → t < n → length (lanes t j) ≤ downPlaces
+
+-- whether a message is WITHDRAW, to which GONE is sent back
+abbrev pub isWithdrawal : Message → Bool
+isWithdrawal (Request h) = false
+isWithdrawal Release = false
+isWithdrawal Grant = false
+isWithdrawal Withdraw = true
+isWithdrawal Gone = false
 
 -- what asking the member m answers, where only the room in its lane is left to be tested
 abbrev pub askAnswer : State → ℕ → ℕ → Units → ℕ → Answer
@@ -59,3 +70,8 @@ pub record Receives (r : Record) (s j : ℕ) (rest : ℕ → ℕ → List Messag
 -- a station that collects works with a quorum of the table, which names no station from n on
 abbrev pub Wishes : ℕ → List ℕ → Phase → Type 0
 Wishes n table p = (q : ℕ) (h : Units) (m : ℕ) → p ≡ Collecting q h m → (q < length table) × (quorum table q < 2 ^ n)
+
+-- Withdraw has passed 19, 8 and 20: the station collects some units by this quorum, and approaches m
+pub record Leaves (r : Record) (s q m : ℕ) : Type 0 where
+  pub units : Units
+  pub withdraws : Withdraws (view r) s q units m

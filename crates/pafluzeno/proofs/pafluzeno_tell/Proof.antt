@@ -40,10 +40,10 @@ use Rattle.quorum.specs.Limits.{mostStations}
 use Rattle.units.specs.Units.{stockOf}
 use Rattle.records.specs.View.{arbiterOf}
 use Rattle.records.specs.declared.Arbiter.{Arbiter}
-use Rattle.arbiters.specs.Lent.{lending, lentOf}
+use Rattle.arbiters.specs.Lent.{lentOf}
 use Rattle.arbiters.specs.declared.Reply.{Reply}
 use Rattle.arbiters.specs.declared.Settled.{Settled}
-use Rattle.pafluzeno.specs.Arriving.{upwardOf}
+use Rattle.pafluzeno.specs.Arriving.{arriving}
 use Rattle.pafluzeno.specs.declared.Arrival.{Arrival}
 use Rattle.pafluzeno.proofs.settled.Symbol.{name as #settled}
 use Rattle.pafluzeno.proofs.pafluzeno_tell.Key.{name as #tell}
@@ -88,7 +88,7 @@ parts r v is = LL.owed S.the-type S′.the-laws r (v ∷ []) is
 -- what `settled` promises of the arbiter h, the message i and its answer r
 abbrev Promised : Arbiter → Arrival → Settled → Type 0
 Promised h i r =
-    (lentOf (r .reply) (r .arbiter) ≡ lending (stockOf (i .stock)) (i .station) (upwardOf (i .request) (i .units)) (arbiterOf mostStations h)) × (0 < r .reply .refusal → r .arbiter ≡ h)
+    (lentOf (r .reply) (r .arbiter) ≡ arriving (stockOf (i .stock)) (i .station) (i .message) (i .units) (arbiterOf mostStations h)) × (0 < r .reply .refusal → r .arbiter ≡ h)
 
 module _ {M : Type 1} (𝓤 : URA M) (H : Heap 𝓤) (A : Atoms 𝓤) (at-mem : Memory → SProp 𝓤) (run : Routine → Fun 𝓤) where
   abbrev Settle : Contract 𝓤

@@ -9,7 +9,7 @@ use Rattle.units.specs.declared.Units.{Units}
 use Rattle.plain.specs.InRange.{inRange}
 use Rattle.plain.specs.State.{State}
 use Rattle.plain.specs.declared.Message.{Message}
-use Rattle.plain.specs.declared.Phase.the-variants.{Idle, Holding}
+use Rattle.plain.specs.declared.Phase.the-variants.{Idle, Collecting, Holding}
 
 -- Request: 19 and 8 to 11
 pub record Requests (st : State) (s q : ℕ) (h : Units) : Type 0 where
@@ -31,3 +31,9 @@ pub record Releases (st : State) (s q : ℕ) (h : Units) : Type 0 where
   pub range : inRange st ≡ true
   pub station : s < st .n
   pub holding : st .phase s ≡ Holding q h
+
+-- Withdraw: 19, 8 and 20; the station collects these units by this quorum, and approaches m
+pub record Withdraws (st : State) (s q : ℕ) (h : Units) (m : ℕ) : Type 0 where
+  pub range : inRange st ≡ true
+  pub station : s < st .n
+  pub collecting : st .phase s ≡ Collecting q h m

@@ -5,8 +5,9 @@ use mathlib.Core.Path.{sym}
 use native.Mathlib.Omega.{arith}
 use borrow.Author.Needs.{needs}
 use Rattle.plain.specs.Arbiter.{arrived}
+use Rattle.plain.specs.declared.Message.the-variants.{Release, Grant, Gone}
 use Rattle.records.proofs.Good.{line-of, granted-of}
-use Rattle.arbiters.proofs.ArrivingMessage.{request-passes, request-room, release-room, grant-room, request-joins, release-clears}
+use Rattle.arbiters.proofs.ArrivingMessage.{request-passes, request-room, others-room, withdraw-room, request-joins, release-clears, withdraw-drops}
 use Rattle.arbiters.proofs.delivery.arrive.Statement.{statement}
 use Rattle.arbiters.proofs.delivery.arrive.Tie as tie
 
@@ -26,12 +27,13 @@ returns-2 c =
     )
 
 returns-3 : tie.Need-returns-3
+unfolding arrived
 returns-3 c =
     let t = c .before in
     let st = t .before .before in
     let a = st .args .a in
     let long = granted-of a _ (st .good .0) in (
-      λ n. rw (t .enum-told .given .1) (sym (release-room n (st .args .s) a (st .pre .1))),
+      λ n. rw (t .enum-told .given .1) (sym (others-room n (st .args .s) Release a (omega arith) (st .pre .1))),
       λ z n p. rw (t .enum-told .given .1, c .no-units .ensures) (release-clears n (st .args .s) a p (omega arith)),
     )
 
@@ -39,12 +41,30 @@ returns-4 : tie.Need-returns-4
 unfolding arrived
 returns-4 c =
     let st = c .before .before in
+    (λ n. rw (c .enum-told2 .given .1) (sym (others-room n (st .args .s) Grant (st .args .a) (omega arith) (st .pre .1))), λ z n p. rw (c .enum-told2 .given .1))
+
+returns-5 : tie.Need-returns-5
+returns-5 c =
+    let w = c .before .before .before in
+    let t = w .before .before .before in
+    let st = t .before .before in
     let a = st .args .a in
-    (λ n. rw (c .enum-told2 .given .1) (sym (grant-room n (st .args .s) a (st .pre .1))), λ z n p. rw (c .enum-told2 .given .1))
+    let long = granted-of a _ (st .good .0) in (
+      λ n. rw (t .enum-told3 .given .1) (sym (withdraw-room n (st .args .s) a (st .pre .1))),
+      λ z n p. rw (t .enum-told3 .given .1, c .no-units2 .ensures)
+          (withdraw-drops n (st .args .s) a (w .without .result .len) (w .without .result .line) p (omega arith) (w .without .ensures .0)),
+    )
+
+returns-6 : tie.Need-returns-6
+unfolding arrived
+returns-6 c =
+    let st = c .before .before in
+    (λ n. rw (c .enum-told4 .given .1) (sym (others-room n (st .args .s) Gone (st .args .a) (omega arith) (st .pre .1))), λ z n p. rw (c .enum-told4 .given .1))
 
 pub arrive-spec : {M : Type 1} → statement M
 arrive-spec =
     tie.close
     (tie.spec
     (λ c. search needs) (λ c. search needs) returns (λ c. search needs) (λ c. search needs) (λ c. search needs) (λ c. search needs) (λ c. search needs) (λ c κs. search needs)
-    (λ c. search needs) (λ c. search needs) returns-2 returns-3 returns-4)
+    (λ c. search needs) (λ c. search needs) (λ c. search needs) (λ c. search needs) (λ c κs. search needs) (λ c κs. search needs) (λ c. search needs) (λ c. search needs)
+    returns-2 returns-3 returns-4 returns-5 returns-6)

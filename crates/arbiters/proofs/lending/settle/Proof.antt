@@ -2,7 +2,7 @@
 -- Assumes nothing.
 use mathlib.Core.Bool.{true, false, not}
 use mathlib.Core.Path.{_≡_, refl, sym, ap, ap₂, _∙_}
-use Prim.Native.Nat.{ℕ}
+use Prim.Native.Nat.{ℕ, _<_}
 use borrow.Author.Needs.{needs}
 use borrow.Author.Tests.{le-leb, lt-leb, not-false}
 use Rattle.quorum.specs.Limits.{mostStations, mostUnits, upTo}
@@ -14,8 +14,9 @@ use Rattle.plain.specs.InRange.{arbiterIn}
 use Rattle.plain.specs.declared.Message.the-variants.{Request}
 use Rattle.records.specs.View.{arbiterOf}
 use Rattle.arbiters.specs.Inner.Ready.{delivering}
-use Rattle.arbiters.specs.Lent.{badUnits, sentUp}
+use Rattle.arbiters.specs.Lent.{badUnits, sentUp, lending}
 use Rattle.arbiters.specs.declared.Upward.{Upward}
+use Rattle.arbiters.specs.declared.Upward.the-variants.{Release, Withdraw}
 use Rattle.arbiters.proofs.LendingArbiter.{lending-refused, lending-delivers}
 use Rattle.arbiters.proofs.lending.settle.Statement.{statement}
 use Rattle.arbiters.proofs.lending.settle.Tie as tie
@@ -103,6 +104,9 @@ deliver-lent-requires c κs = let u = c .before in (in-range (others u), u .befo
 deliver-lent-requires-2 : tie.Need-deliver-lent-requires-2
 deliver-lent-requires-2 c κs = (in-range (c .before .before .before), c .before .before .if3 .left)
 
+deliver-lent-requires-3 : tie.Need-deliver-lent-requires-3
+deliver-lent-requires-3 c κs = (in-range (c .before .before .before), c .before .before .if3 .left)
+
 returns-5 : tie.Need-returns-5
 returns-5 c =
     let f = c .before in
@@ -116,24 +120,35 @@ returns-5 c =
       c .deliver-lent .ensures .1,
     )
 
+-- of a message without units: nothing is left to be tested but the line
+module _ (e : tie.Else2) (station : given (e .before .before) .args .i .station < mostStations) (m : Upward) (is : given (e .before .before) .args .i .message ≡ m)
+    (no-units : badUnits (stockOf (given (e .before .before) .args .i .stock)) m ≡ false) where
+  abbrev call : tie.Start
+  call = given (e .before .before)
+
+  delivered : delivering (e .before .before .before .before .before .stock-of .result) (call .args .i .station) (sentUp m) (arbiterOf mostStations (call .args .a))
+      ≡ lending (stockOf (call .args .i .stock)) (call .args .i .station) (call .args .i .message) (arbiterOf mostStations (call .args .a))
+  delivered =
+      let stocked = stockOf (call .args .i .stock) in
+      let passed = lending-delivers stocked (call .args .i .station) (call .args .i .message) (arbiterOf mostStations (call .args .a)) (stock (e .before .before), (range e, (lt-leb _ _ station, (ap (badUnits stocked) is ∙ no-units, tt)))) in
+      ap (λ (x : Units). delivering x (call .args .i .station) (sentUp m) (arbiterOf mostStations (call .args .a))) (is-stock (e .before .before))
+      ∙ sym (passed ∙ ap (λ (m : Upward). delivering stocked (call .args .i .station) (sentUp m) (arbiterOf mostStations (call .args .a))) is)
+
 returns-6 : tie.Need-returns-6
 returns-6 c =
     let t = c .before in
     let e = t .before .before .before in
-    let s = e .before .before in
-    let st = given s in
-    let stocked = stockOf (st .args .i .stock) in
-    let is = t .enum-told .given .1 in
-    let passed = lending-delivers stocked (st .args .i .station) (st .args .i .message) (arbiterOf mostStations (st .args .a)) (stock s, (range e, (lt-leb _ _ (t .before .before .if3 .left), (ap (badUnits stocked) is, tt)))) in (
-      c .deliver-lent2 .ensures .0
-          ∙ ap (λ (x : Units). delivering x (st .args .i .station) _ (arbiterOf mostStations (st .args .a))) (is-stock s)
-          ∙ sym (passed ∙ ap (λ (m : Upward). delivering stocked (st .args .i .station) (sentUp m) (arbiterOf mostStations (st .args .a))) is),
-      c .deliver-lent2 .ensures .1,
-    )
+    (c .deliver-lent2 .ensures .0 ∙ delivered e (t .before .before .if3 .left) Release (t .enum-told .given .1) refl, c .deliver-lent2 .ensures .1)
+
+returns-7 : tie.Need-returns-7
+returns-7 c =
+    let t = c .before in
+    let e = t .before .before .before in
+    (c .deliver-lent3 .ensures .0 ∙ delivered e (t .before .before .if3 .left) Withdraw (t .enum-told2 .given .1) refl, c .deliver-lent3 .ensures .1)
 
 pub settle-spec : {M : Type 1} → statement M
 settle-spec =
     tie.close
     (tie.spec
     (λ c κs. search needs) (λ c κs. search needs) (λ c κs. search needs) (λ c κs. search needs) returns (λ c κs. search needs) (λ c κs. search needs) returns-2 (λ c κs. search needs) returns-3 (λ c. search needs)
-    (λ c κs. search needs) (λ c κs. search needs) (λ c κs. search needs) returns-4 deliver-lent-requires (λ c. search needs) deliver-lent-requires-2 returns-5 returns-6)
+    (λ c κs. search needs) (λ c κs. search needs) (λ c κs. search needs) returns-4 deliver-lent-requires (λ c. search needs) deliver-lent-requires-2 (λ c. search needs) deliver-lent-requires-3 returns-5 returns-6 returns-7)

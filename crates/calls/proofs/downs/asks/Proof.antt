@@ -1,6 +1,6 @@
 -- `calls::downs::asks` meets its contract. A refusal hands back the record with the message.
 -- Assumes nothing.
-use mathlib.Core.Path.{sym, _∙_}
+use mathlib.Core.Path.{refl, sym}
 use native.Mathlib.Omega.{arith}
 use borrow.Author.Needs.{needs}
 use Rattle.calls.specs.Answers.{answerOf}
@@ -11,10 +11,10 @@ use Rattle.calls.proofs.downs.asks.Tie as tie
 returns : tie.Need-returns
 unfolding answerOf
 returns c =
-    let a = c .before .before .before in
+    let a = c .before .before in
     let st = a .before in
     let x = st .args in
-    (c .refuse .ensures .0 ∙ sym (asks-full (x .r) (x .s) (x .j) (x .rest) (x .quorum) (x .units) (x .member) (st .pre .0) (answerOf (a .ask .result)) (a .ask .ensures .0) (c .before .if1 .taken)), λ z. c .refuse .ensures .1)
+    (sym (asks-full (x .r) (x .s) (x .j) (x .rest) (x .quorum) (x .units) (x .member) (st .pre .0) (answerOf (a .ask .result)) (a .ask .ensures .0) (c .if1 .taken)), λ z. refl)
 
 returns-2 : tie.Need-returns-2
 unfolding answerOf
@@ -25,4 +25,4 @@ returns-2 c =
     (sym (asks-done (x .r) (x .s) (x .j) (x .rest) (x .quorum) (x .units) (x .member) (st .pre .0) (answerOf (a .ask .result)) (a .ask .ensures .0) (c .if1 .left)), λ z. absurd (omega arith))
 
 pub asks-spec : {M : Type 1} → statement M
-asks-spec = tie.close (tie.spec (λ c κs. (c .pre .0 .takes .few, c .pre .0 .takes .took .station, c .pre .1)) (λ c. search needs) returns returns-2)
+asks-spec = tie.close (tie.spec (λ c κs. (c .pre .0 .takes .few, c .pre .0 .takes .took .station, c .pre .1)) returns returns-2)

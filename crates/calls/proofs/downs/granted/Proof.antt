@@ -8,7 +8,7 @@ use borrow.Author.Needs.{needs}
 use Rattle.lists.specs.Cut.{cut}
 use Rattle.lists.proofs.Cuts.{length-cut, getD-cut}
 use Rattle.quorum.specs.Family.{quorum}
-use Rattle.calls.proofs.GoingOnward.{taken-idle, taken-holding, taken-elsewhere, taken-here}
+use Rattle.calls.proofs.GoingOnward.{taken-idle, taken-holding, taken-withdrawing, taken-elsewhere, taken-here}
 use Rattle.calls.proofs.downs.granted.Statement.{statement}
 use Rattle.calls.proofs.downs.granted.Tie as tie
 
@@ -49,9 +49,12 @@ returns-3 c =
 returns-4 : tie.Need-returns-4
 returns-4 c = (sym (taken-holding _ _ (c .enum-told2 .given .1)), refl)
 
+returns-5 : tie.Need-returns-5
+returns-5 c = (sym (taken-withdrawing _ _ (c .enum-told3 .given .1)), refl)
+
 pub granted-spec : {M : Type 1} → statement M
 granted-spec =
     tie.close
     (tie.spec
     (λ c. search needs) (λ c. search needs) (λ c. search needs) returns (λ c. search needs) (λ c. search needs) array-read-onward onward-requires (λ c. search needs)
-    returns-2 returns-3 returns-4)
+    (λ c. search needs) returns-2 returns-3 returns-4 returns-5)

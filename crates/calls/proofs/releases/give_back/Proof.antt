@@ -26,7 +26,7 @@ returns : tie.Need-returns
 returns c =
     let w = c .before .before in
     let st = w .before .before .before .before in
-    (c .refuse .ensures .0 ∙ sym (back-full (st .args .t1) (st .args .s) (st .args .quorum) (st .args .units) (st .pre .0) (sym (w .release-row .ensures .0) ∙ c .before .if1 .taken)), λ z. c .refuse .ensures .1)
+    (c .refuse .ensures .0 ∙ sym (back-full (st .args .t1) (st .args .s) (st .args .quorum) (st .args .units) (st .pre .0) (w .release-row .ensures .0) (c .before .if1 .taken)), λ z. c .refuse .ensures .1)
 
 returns-2 : tie.Need-returns-2
 returns-2 c =
@@ -38,7 +38,7 @@ returns-2 c =
     let stations = stations-of r _ (st .good .0) in
     let rows = rows-of-up r _ (st .good .0) in (
       rw none at (c .done-with .ensures .0)
-          ∙ sym (back-done r (st .args .s) (st .args .quorum) (st .args .units) (st .pre .0) (w .release-row .result .row) (omega (arith, stations, st .pre .1)) (omega (arith, rows, st .pre .1)) (w .release-row .ensures .1 (e .if1 .left)) (sym (w .release-row .ensures .0) ∙ e .if1 .left)),
+          ∙ sym (back-done r (st .args .s) (st .args .quorum) (st .args .units) (st .pre .0) (w .release-row .ensures .0) (e .if1 .left) (w .release-row .result .row) (omega (arith, stations, st .pre .1)) (omega (arith, rows, st .pre .1)) (w .release-row .ensures .1 (e .if1 .left))),
       λ z. absurd (omega (arith, c .done-with .ensures .1)),
     )
 

@@ -55,6 +55,7 @@ send-requires c κs =
     let g = told d (e .if1 .left) in
     record {
       few = t .few;
+      station = t .took .station;
       arbiter = t .took .arbiter;
       short = g .short;
       named = g .named;

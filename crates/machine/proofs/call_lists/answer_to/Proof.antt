@@ -4,7 +4,7 @@ use mathlib.Core.Path.{sym, ap, _∙_}
 use borrow.Author.Needs.{needs}
 use Rattle.plain.specs.Run.{call}
 use Rattle.records.specs.View.{view}
-use Rattle.machine.proofs.PerformingCalls.{call-request, call-up, call-down, call-release}
+use Rattle.machine.proofs.PerformingCalls.{call-request, call-up, call-down, call-release, call-withdraw}
 use Rattle.machine.proofs.call_lists.answer_to.Statement.{statement}
 use Rattle.machine.proofs.call_lists.answer_to.Tie as tie
 
@@ -29,11 +29,18 @@ returns-3 c =
 returns-4 : tie.Need-returns-4
 unfolding call
 returns-4 c =
-    let st = c .before .before .before .before in
-    c .release .ensures .0 ∙ sym (ap (call (view (st .args .r))) (call-release (st .args .what) (st .args .with) (st .args .units) (st .args .station) (c .before .before .before .if1 .left) (c .before .before .if2 .left) (c .before .if3 .left)))
+    let st = c .before .before .before .before .before in
+    c .release .ensures .0 ∙ sym (ap (call (view (st .args .r))) (call-release _ _ _ _ (c .before .if4 .taken)))
+
+returns-5 : tie.Need-returns-5
+unfolding call
+returns-5 c =
+    let d = c .before in
+    let st = d .before .before .before .before in
+    c .withdraw .ensures .0 ∙ sym (ap (call (view (st .args .r))) (call-withdraw (st .args .what) (st .args .with) (st .args .units) (st .args .station) (d .before .before .before .if1 .left) (d .before .before .if2 .left) (d .before .if3 .left) (d .if4 .left)))
 
 pub answer-to-spec : {M : Type 1} → statement M
 answer-to-spec =
     tie.close
     (tie.spec
-    (λ c. search needs) returns (λ c. search needs) returns-2 (λ c. search needs) returns-3 (λ c. search needs) returns-4)
+    (λ c. search needs) returns (λ c. search needs) returns-2 (λ c. search needs) returns-3 (λ c. search needs) returns-4 (λ c. search needs) returns-5)

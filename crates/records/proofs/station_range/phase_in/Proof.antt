@@ -24,9 +24,13 @@ returns-4 : tie.Need-returns-4
 unfolding phaseIn
 returns-4 c = λ table e. rw (c .before .before .p2 .given .1, e) (c .wish-in2 .ensures)
 
+returns-5 : tie.Need-returns-5
+unfolding phaseIn
+returns-5 c = λ table e. rw (c .enum-told2 .given .1)
+
 pub phase-in-spec : {M : Type 1} → statement M
 phase-in-spec =
     tie.close
     (tie.spec
     (λ c. search needs) (λ c. search needs) (λ c. search needs) returns (λ c. search needs) (λ c. search needs)
-    (λ c. search needs) returns-2 returns-3 returns-4)
+    (λ c. search needs) (λ c. search needs) returns-2 returns-3 returns-4 returns-5)

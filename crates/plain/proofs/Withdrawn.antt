@@ -1,0 +1,246 @@
+-- A withdrawn request enters nothing: the calls of a station and what they enter there, from any state.
+-- Assumes nothing.
+use mathlib.Core.Bool.{Bool, true, false, cond, _&&_, true≢false}
+use mathlib.Core.List.{List, [], _∷_, _++_}
+use mathlib.Core.Logic.{_⊎_, inl, inr, by-cases, ⊎-elim}
+use mathlib.Core.Path.{_≡_, refl, sym}
+use Prim.Native.Nat.{ℕ, suc, _+_}
+use native.Mathlib.Decide.{ℕ-discrete}
+use native.Mathlib.Omega.{arith}
+use lib.Dec.{eqb, ltb}
+use borrow.Author.Tests.{eq-eqb, ne-eqb}
+use Rattle.lists.proofs.Changed.{at-same, at-other, at-all}
+use Rattle.lists.proofs.Tests.{known, clash, or-none, either}
+use Rattle.stations.specs.Sets.{places, lowestFrom}
+use Rattle.quorum.specs.Family.{quorum}
+use Rattle.units.specs.Units.{noUnits, Amount, amount}
+use Rattle.units.specs.declared.Units.{Units}
+use Rattle.units.proofs.Amounts.{amount-none}
+use Rattle.plain.specs.Answer.{answered}
+use Rattle.plain.specs.Down.{Taken, onward, taken, takenAt, enters, downRefusal, phaseThen, receivedAs, received, entering, down}
+use Rattle.plain.specs.Release.{releaseRefusal, givenBack, released, held, release}
+use Rattle.plain.specs.Request.{requestRefusal, lowest, requested, request}
+use Rattle.plain.specs.Run.{Call, call, after}
+use Rattle.plain.specs.State.{State}
+use Rattle.plain.specs.Up.{upRefusal, deliveredOf, delivered, up}
+use Rattle.plain.specs.Withdraw.{isCollecting, withdrawRefusal, givenUp, withdrawn, withdraw}
+use Rattle.plain.specs.Withdrawn.{entersAt, enteredAt, asks, asksAgain}
+use Rattle.plain.specs.declared.Message.{Message}
+use Rattle.plain.specs.declared.Phase.{Phase}
+use Rattle.plain.specs.declared.Phase.the-variants.{Idle, Collecting, Holding, Withdrawing}
+use Rattle.plain.proofs.Answered.{answered-as}
+use Rattle.plain.proofs.Approaching.{made-as, left-as}
+use Rattle.plain.proofs.Passed.{withdraws, withdraw-done}
+
+-- ---- one call
+
+module _ (s : ℕ) where
+  -- whether station s collects
+  abbrev collects : State → Bool
+  collects st = isCollecting (st .phase s)
+
+  -- a station that does not collect, and does not ask, does not collect then
+  module _ (st : State) (none : collects st ≡ false) where
+    -- whatever message another station takes, or s itself
+    message-stays : (t j : ℕ) (m : Message) → isCollecting (phaseThen st t (takenAt st t j m) s) ≡ false
+    unfolding taken
+    message-stays t j m = by-cases (ℕ-discrete s t) (λ (e : s ≡ t). rw (sym e) own) (λ (d : s ≡ t → ⊥). other d (takenAt st t j m))
+      where
+        other : (s ≡ t → ⊥) → (x : Taken) → isCollecting (phaseThen st t x s) ≡ false
+        other d (Taken.asks q h i) = rw (at-other (st .phase) t (Collecting q h i) s d) none
+        other d (Taken.holds q h) = rw (at-other (st .phase) t (Holding q h) s d) none
+        other d Taken.idles = rw (at-other (st .phase) t Idle s d) none
+        other d Taken.drops = none
+
+        grant : (p : Phase) → isCollecting p ≡ false → isCollecting (phaseThen st s (taken (st .table) j p) s) ≡ false
+        grant Idle e = none
+        grant (Collecting q h i) e = absurd (true≢false e)
+        grant (Holding q h) e = none
+        grant Withdrawing e = none
+
+        own : isCollecting (phaseThen st s (takenAt st s j m) s) ≡ false
+        own =
+            made-as (λ x. isCollecting (phaseThen st s x s) ≡ false) (st .table) j (st .phase s) none (grant (st .phase s) none)
+            (left-as (λ x. isCollecting (phaseThen st s x s) ≡ false) (st .phase s) none (λ w. rw (at-same (st .phase) s Idle)))
+            m
+
+    up-stays : (t j : ℕ) (lane : List Message) → collects (delivered st t j lane) ≡ false
+    unfolding delivered deliveredOf
+    up-stays t j [] = none
+    up-stays t j (m ∷ rest) = none
+
+    down-stays : (t j : ℕ) (lane : List Message) → collects (received st t j lane) ≡ false
+    unfolding received receivedAs
+    down-stays t j [] = none
+    down-stays t j (m ∷ rest) = message-stays t j m
+
+    release-stays : (t : ℕ) (p : Phase) → collects (released st t p) ≡ false
+    unfolding released givenBack
+    release-stays t Idle = none
+    release-stays t (Collecting q h m) = none
+    release-stays t (Holding q h) = at-all (λ p. isCollecting p ≡ false) (st .phase) t Idle refl s none
+    release-stays t Withdrawing = none
+
+    withdraw-stays : (t : ℕ) (p : Phase) → collects (withdrawn st t p) ≡ false
+    unfolding withdrawn givenUp
+    withdraw-stays t Idle = none
+    withdraw-stays t (Collecting q h m) = at-all (λ p. isCollecting p ≡ false) (st .phase) t Withdrawing refl s none
+    withdraw-stays t (Holding q h) = none
+    withdraw-stays t Withdrawing = none
+
+    answer-stays : (r : ℕ) (e l : Units) (next : State) → collects next ≡ false → collects (answered st r e l next .state) ≡ false
+    answer-stays r e l next n = answered-as st e l next (λ x. collects (x .state) ≡ false) r (λ z. n) none
+
+    stays : (c : Call) → asks s st c ≡ false → collects (call st c .state) ≡ false
+    unfolding call request requested up down release withdraw
+    stays (Call.Request t q h) e =
+        answered-as st noUnits noUnits (requested st t q h) (λ x. (eqb t s && eqb (x .refusal) 0) ≡ false → collects (x .state) ≡ false) (requestRefusal st t q h)
+        (λ z y. rw (at-other (st .phase) t (Collecting q h (lowest st q)) s (λ (i : s ≡ t). true≢false (rw (eq-eqb t s (sym i)) at y))) none)
+        (λ y. none)
+        e
+    stays (Call.Up t j) e = answer-stays (upRefusal st t j) noUnits noUnits (delivered st t j (st .up t j)) (up-stays t j (st .up t j))
+    stays (Call.Down t j) e = answer-stays (downRefusal st t j) (entering st t j (st .down t j)) noUnits (received st t j (st .down t j)) (down-stays t j (st .down t j))
+    stays (Call.Release t) e = answer-stays (releaseRefusal st t) noUnits (held (st .phase t)) (released st t (st .phase t)) (release-stays t (st .phase t))
+    stays (Call.Withdraw t) e = answer-stays (withdrawRefusal st t) noUnits noUnits (withdrawn st t (st .phase t)) (withdraw-stays t (st .phase t))
+
+  module _ (a : Amount) (st : State) where
+    -- of what station t enters
+    abbrev part : ℕ → Units → ℕ
+    part t u = cond (eqb t s) (amount a u) 0
+
+    part-none : (t : ℕ) → part t noUnits ≡ 0
+    part-none t = either (λ x. x ≡ 0) (eqb t s) (amount-none a) refl
+
+    -- nothing is entered at s, or s collects before and no longer then
+    abbrev Entered : ℕ → Units → State → Type 0
+    Entered t u next = (part t u ≡ 0) ⊎ ((collects st ≡ true) × (collects next ≡ false))
+
+    -- only Down enters anything
+    answer-none : (t r : ℕ) (l : Units) (next : State) → part t (answered st r noUnits l next .entered) ≡ 0
+    answer-none t r l next = answered-as st noUnits l next (λ x. part t (x .entered) ≡ 0) r (λ z. part-none t) (part-none t)
+
+    request-none : (q : ℕ) (h : Units) → entersAt a s st (Call.Request s q h) ≡ 0
+    unfolding call request
+    request-none q h = answer-none s (requestRefusal st s q h) noUnits (requested st s q h)
+
+    withdraw-none : entersAt a s st (Call.Withdraw s) ≡ 0
+    unfolding call withdraw
+    withdraw-none = answer-none s (withdrawRefusal st s) noUnits (withdrawn st s (st .phase s))
+
+    message-enters : (t j : ℕ) (rest : List Message) (m : Message) → Entered t (enters (takenAt st t j m)) (receivedAs st t j rest (takenAt st t j m))
+    unfolding taken onward receivedAs
+    message-enters t j rest m = by-cases (ℕ-discrete t s) (λ (e : t ≡ s). rw e own) (λ (d : t ≡ s → ⊥). inl (rw (ne-eqb t s d)))
+      where
+        Made : Taken → Type 0
+        Made x = Entered s (enters x) (receivedAs st s j rest x)
+
+        drops : Made Taken.drops
+        drops = inl (part-none s)
+
+        grant : (p : Phase) → st .phase s ≡ p → Made (taken (st .table) j p)
+        grant Idle e = drops
+        grant (Holding q h) e = drops
+        grant Withdrawing e = drops
+        grant (Collecting q h i) e = asked (eqb i j) (ltb (lowestFrom (quorum (st .table) q) (suc j)) places) (lowestFrom (quorum (st .table) q) (suc j))
+          where
+            asked : (b c : Bool) (x : ℕ) → Made (cond b (cond c (Taken.asks q h x) (Taken.holds q h)) Taken.drops)
+            asked true true x = inl (part-none s)
+            asked true false x = inr (rw e, rw (at-same (st .phase) s (Holding q h)))
+            asked false c x = drops
+
+        own : Made (takenAt st s j m)
+        own = made-as Made (st .table) j (st .phase s) drops (grant (st .phase s) refl) (left-as Made (st .phase s) drops (λ w. inl (part-none s))) m
+
+    down-enters : (t j : ℕ) (lane : List Message) → Entered t (entering st t j lane) (received st t j lane)
+    unfolding entering received
+    down-enters t j [] = inl (part-none t)
+    down-enters t j (m ∷ rest) = message-enters t j rest m
+
+    call-enters : (c : Call) → (entersAt a s st c ≡ 0) ⊎ ((collects st ≡ true) × (collects (call st c .state) ≡ false))
+    unfolding call request up down release withdraw
+    call-enters (Call.Request t q h) = inl (answer-none t (requestRefusal st t q h) noUnits (requested st t q h))
+    call-enters (Call.Up t j) = inl (answer-none t (upRefusal st t j) noUnits (delivered st t j (st .up t j)))
+    call-enters (Call.Down t j) =
+        answered-as st (entering st t j (st .down t j)) noUnits (received st t j (st .down t j)) (λ x. Entered t (x .entered) (x .state)) (downRefusal st t j)
+        (λ z. down-enters t j (st .down t j))
+        (inl (part-none t))
+    call-enters (Call.Release t) = inl (answer-none t (releaseRefusal st t) (held (st .phase t)) (released st t (st .phase t)))
+    call-enters (Call.Withdraw t) = inl (answer-none t (withdrawRefusal st t) noUnits (withdrawn st t (st .phase t)))
+
+-- ---- lists of calls
+
+module _ (a : Amount) (s : ℕ) where
+  -- a station that does not collect, and does not ask again: nothing is entered there, and it does not collect in the end
+  resting : (st : State) (calls : List Call) → collects s st ≡ false → asksAgain s st calls ≡ false → (enteredAt a s st calls ≡ 0) × (collects s (after st calls) ≡ false)
+  unfolding enteredAt asksAgain after
+  resting st [] none e = (refl, none)
+  resting st (c ∷ calls) none e =
+      let (now, then) = or-none (asks s st c) (asksAgain s (call st c .state) calls) e in
+      let (later, end) = resting (call st c .state) calls (stays s st none c now) then in
+      let none-now : entersAt a s st c ≡ 0 = ⊎-elim (λ z. z) (λ (t, f). absurd (clash t none)) (call-enters s a st c) in
+      (omega arith, end)
+
+  -- a station that collects in the end, and does not ask again: nothing is entered there
+  collecting : (st : State) (calls : List Call) → asksAgain s st calls ≡ false → collects s (after st calls) ≡ true → enteredAt a s st calls ≡ 0
+  unfolding enteredAt asksAgain after
+  collecting st [] e end = refl
+  collecting st (c ∷ calls) e end =
+      let (now, then) = or-none (asks s st c) (asksAgain s (call st c .state) calls) e in
+      ⊎-elim
+      (λ (on : collects s (call st c .state) ≡ true).
+      let none-now : entersAt a s st c ≡ 0 = ⊎-elim (λ z. z) (λ (t, f). absurd (clash on f)) (call-enters s a st c) in
+      omega (arith, none-now, collecting (call st c .state) calls then end))
+      (λ (off : collects s (call st c .state) ≡ false). absurd (clash end (resting (call st c .state) calls off then .1)))
+      (known (collects s (call st c .state)))
+
+  -- Withdraw(s) is not refused: s collects, and does not collect then
+  withdraw-stops : (st : State) → call st (Call.Withdraw s) .refusal ≡ 0 → (collects s st ≡ true) × (collects s (call st (Call.Withdraw s) .state) ≡ false)
+  unfolding call withdraw withdrawn givenUp
+  withdraw-stops st e =
+      let passed = answered-as st noUnits noUnits (withdrawn st s (st .phase s)) (λ x. x .refusal ≡ 0 → withdrawRefusal st s ≡ 0) (withdrawRefusal st s) (λ z y. z) (λ z. z) e in
+      let (q, h, m, w, room) = withdraws st s passed in
+      (rw (w .collecting), rw (withdraw-done st s w room, at-same (st .phase) s Withdrawing))
+
+  -- the request that is withdrawn has entered nothing: since s asked, no call has entered anything at s
+  pub had-entered-none : (st : State) (between : List Call) → asksAgain s st between ≡ false → call (after st between) (Call.Withdraw s) .refusal ≡ 0
+      → enteredAt a s st between ≡ 0
+  had-entered-none st between e d = collecting st between e (withdraw-stops (after st between) d .0)
+
+  -- and after Withdraw(s) no call enters anything at s before s asks again
+  pub enters-none-then : (st : State) (later : List Call) → call st (Call.Withdraw s) .refusal ≡ 0 → asksAgain s (call st (Call.Withdraw s) .state) later ≡ false
+      → enteredAt a s (call st (Call.Withdraw s) .state) later ≡ 0
+  enters-none-then st later d e = resting (call st (Call.Withdraw s) .state) later (withdraw-stops st d .1) e .0
+
+  -- ---- both in one: the whole list
+
+  entered-append : (st : State) (x y : List Call) → enteredAt a s st (x ++ y) ≡ enteredAt a s st x + enteredAt a s (after st x) y
+  unfolding enteredAt after
+  entered-append st [] y = omega arith
+  entered-append st (c ∷ x) y = omega (arith, entered-append (call st c .state) x y)
+
+  asks-append : (st : State) (x y : List Call) → asksAgain s st (x ++ y) ≡ false → (asksAgain s st x ≡ false) × (asksAgain s (after st x) y ≡ false)
+  unfolding asksAgain after
+  asks-append st [] y e = (refl, e)
+  asks-append st (c ∷ x) y e =
+      let (now, then) = or-none (asks s st c) (asksAgain s (call st c .state) (x ++ y)) e in
+      let (first, second) = asks-append (call st c .state) x y then in
+      (rw (now, first), second)
+
+  -- "a withdrawn request enters none": from any state, station s asks; later its Withdraw is not refused; and in between and after that no
+  -- other Request of s is done. Then no call of all these enters anything at s, of any amount. (That the first Request is done is not needed.)
+  pub withdrawn-enters-none : (st : State) (q : ℕ) (h : Units) (between later : List Call)
+      → asksAgain s (call st (Call.Request s q h) .state) (between ++ (Call.Withdraw s ∷ later)) ≡ false
+      → call (after (call st (Call.Request s q h) .state) between) (Call.Withdraw s) .refusal ≡ 0
+      → enteredAt a s st (Call.Request s q h ∷ (between ++ (Call.Withdraw s ∷ later))) ≡ 0
+  unfolding enteredAt asksAgain
+  withdrawn-enters-none st q h between later e d =
+      let asked = call st (Call.Request s q h) .state in
+      let (not-between, not-later) = asks-append asked between (Call.Withdraw s ∷ later) e in
+      omega (
+        arith,
+        request-none s a st q h,
+        entered-append asked between (Call.Withdraw s ∷ later),
+        had-entered-none asked between not-between d,
+        withdraw-none s a (after asked between),
+        enters-none-then (after asked between) later d not-later,
+      )
