@@ -2,7 +2,7 @@
 -- Assumes nothing.
 use mathlib.Core.Bool.{Bool, true, false}
 use mathlib.Core.List.{List}
-use mathlib.Core.Path.{_≡_, sym, ap, _∙_}
+use mathlib.Core.Path.{_≡_, refl, sym, _∙_}
 use Prim.Native.Nat.{ℕ, _<_}
 use lib.ListN.{length, getD, set}
 use Rattle.lists.specs.At.{at}
@@ -10,7 +10,7 @@ use Rattle.lists.specs.Search.{someBelow}
 use Rattle.quorum.specs.Family.{quorum}
 use Rattle.units.specs.Units.{noUnits}
 use Rattle.units.specs.declared.Units.{Units}
-use Rattle.plain.specs.Answer.{refused, done}
+use Rattle.plain.specs.Answer.{Answer, refused, done}
 use Rattle.plain.specs.Inner.Passed.{Releases}
 use Rattle.plain.specs.Lanes.{noPlace}
 use Rattle.plain.specs.Release.{releasing, releasePasses, givenBack, release}
@@ -24,6 +24,7 @@ use Rattle.records.specs.declared.Record.{Record}
 use Rattle.records.specs.declared.Row.{Row}
 use Rattle.records.proofs.Storing.{storePhase, storeUp, phase-stored}
 use Rattle.records.proofs.Viewing.{quorum-at, phases-at, rows-at, rows-with}
+use Rattle.calls.specs.Inner.Parts.{rowAnswer}
 use Rattle.calls.proofs.RecordInRange.{holds}
 
 -- ---- what both do
@@ -36,22 +37,25 @@ abbrev pub lanes-of : Record → ℕ → ℕ → List Message
 lanes-of r s = rowOf (r .n) (getD (r .up .rows) s noRow)
 
 -- the record with the station in this phase, and with these lanes up
-abbrev pub stored : Record → ℕ → Phase → Row → Record
-stored r s p row = storePhase s p (storeUp (record { rows = set (r .up .rows) s row }) r)
+pub row-stored : (r : Record) (s : ℕ) (p : Phase) (row : Row) → s < r .n → s < length (r .stations) → s < length (r .up .rows)
+    → view (storePhase s p (storeUp (record { rows = set (r .up .rows) s row }) r)) ≡ withPhase s p (withUps (at (view r .up) s (rowOf (r .n) row)) (view r))
+unfolding view
+row-stored r s p row station stations rows =
+    phase-stored (storeUp (record { rows = set (r .up .rows) s row }) r) s p station stations ∙ rw (rows-with (r .n) (r .up) s row station rows)
 
-module _ (r : Record) (s q : ℕ) (station : s < r .n) (exists : q < r .quorums) where
-  -- what is tested of them, with the answer b
-  pub tested : (f : ℕ → (ℕ → List Message) → Bool) {b c : Bool} → b ≡ f (set-of r q) (lanes-of r s) → b ≡ c → f (quorum (view r .table) q) (view r .up s) ≡ c
+-- the call tests `full` of the quorum and the lanes, and makes `goes` of them
+module _ (r : Record) (s q : ℕ) (station : s < r .n) (exists : q < r .quorums) (full : ℕ → (ℕ → List Message) → Bool) (goes : ℕ → (ℕ → List Message) → ℕ → List Message)
+    (p : Phase) (left : Units) (call : Answer) where
+  pub row-answer : (full (quorum (view r .table) q) (view r .up s) ≡ true → call ≡ refused (view r) noPlace)
+      → (full (quorum (view r .table) q) (view r .up s) ≡ false
+      → call ≡ done noUnits left (withPhase s p (withUps (at (view r .up) s (goes (quorum (view r .table) q) (view r .up s))) (view r))))
+      → (b : Bool) (lanes : ℕ → List Message) → b ≡ full (set-of r q) (lanes-of r s) → (b ≡ false → lanes ≡ goes (set-of r q) (lanes-of r s))
+      → rowAnswer (view r) s b lanes p left ≡ call
   unfolding view
-  tested f e is = rw (quorum-at r q exists, rows-at (r .n) (r .up) s station) (sym e ∙ is)
-
-  -- what is made of them
-  pub states : (p : Phase) (f : ℕ → (ℕ → List Message) → ℕ → List Message) (row : Row) → s < length (r .stations) → s < length (r .up .rows) → rowOf (r .n) row ≡ f (set-of r q) (lanes-of r s)
-      → withPhase s p (withUps (at (view r .up) s (f (quorum (view r .table) q) (view r .up s))) (view r)) ≡ view (stored r s p row)
-  unfolding view
-  states p f row stations rows longer =
-      sym (phase-stored (storeUp (record { rows = set (r .up .rows) s row }) r) s p station stations
-      ∙ rw (rows-with (r .n) (r .up) s row station rows, longer, quorum-at r q exists, rows-at (r .n) (r .up) s station))
+  row-answer is-full is-done true lanes tests made =
+      sym (is-full (rw (quorum-at r q exists, rows-at (r .n) (r .up) s station) (sym tests)))
+  row-answer is-full is-done false lanes tests made =
+      rw (made refl) (sym (rw (quorum-at r q exists, rows-at (r .n) (r .up) s station) at (is-done (rw (quorum-at r q exists, rows-at (r .n) (r .up) s station) (sym tests)))))
 
 -- ---- Release
 
@@ -60,16 +64,9 @@ module _ (r : Record) (s q : ℕ) (h : Units) (releases : Releases (view r) s q 
   unfolding view
   exists = holds r (releases .range) s (releases .station) (sym (phases-at (r .n) (r .stations) s (releases .station)) ∙ releases .holding)
 
-  abbrev full : ℕ → (ℕ → List Message) → Bool
-  full set lanes = someBelow (releasePasses set lanes) (r .n)
-
-  module _ {b : Bool} (is : b ≡ full (set-of r q) (lanes-of r s)) where
-    pub back-full : b ≡ true → release (view r) s ≡ refused (view r) noPlace
-    unfolding view
-    back-full f = release-full (view r) s releases (tested r s q (releases .station) exists full is f)
-
-    pub back-done : b ≡ false → (row : Row) → s < length (r .stations) → s < length (r .up .rows) → rowOf (r .n) row ≡ releasing (set-of r q) (lanes-of r s)
-        → release (view r) s ≡ done noUnits h (view (stored r s Idle row))
-    unfolding view givenBack
-    back-done f row stations rows longer =
-        release-done (view r) s releases (tested r s q (releases .station) exists full is f) ∙ ap (done noUnits h) (states r s q (releases .station) exists Idle releasing row stations rows longer)
+  pub gives-back : (b : Bool) (lanes : ℕ → List Message) → b ≡ someBelow (releasePasses (set-of r q) (lanes-of r s)) (r .n) → (b ≡ false → lanes ≡ releasing (set-of r q) (lanes-of r s))
+      → rowAnswer (view r) s b lanes Idle h ≡ release (view r) s
+  unfolding view givenBack
+  gives-back =
+      row-answer r s q (releases .station) exists (λ set lanes. someBelow (releasePasses set lanes) (r .n)) releasing Idle h (release (view r) s)
+      (λ f. release-full (view r) s releases f) (λ f. release-done (view r) s releases f)

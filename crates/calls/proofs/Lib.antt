@@ -1,5 +1,6 @@
 pub mod SendingGrants
 pub mod RecordInRange
+pub mod LastArms
 pub mod TakingMessage
 pub mod DeliveringUp
 pub mod AskingMember

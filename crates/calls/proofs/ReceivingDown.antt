@@ -1,26 +1,29 @@
--- Down on a record, by what the station makes of the message: it asks, it holds, it is idle, or it drops it.
+-- Down on a record, by what the station makes of the message: it asks, it holds, it goes on as after a GONE, or it drops it.
 -- Assumes nothing.
 use mathlib.Core.Bool.{true, false}
 use mathlib.Core.List.{List}
 use mathlib.Core.Path.{_≡_, refl, sym, ap, _∙_}
 use Prim.Native.Nat.{ℕ, _<_}
-use lib.ListN.{length}
+use lib.ListN.{length, getD}
+use Rattle.lists.proofs.Changed.{at-kept}
 use Rattle.units.specs.Units.{noUnits}
 use Rattle.units.specs.declared.Units.{Units}
 use Rattle.plain.specs.Answer.{Answer, refused, done}
 use Rattle.plain.specs.Asking.{askPasses, asking}
-use Rattle.plain.specs.Down.{Taken, enters, downPasses, receivedAs, down}
+use Rattle.plain.specs.Down.{Taken, left, enters, downPasses, receivedAs, down}
 use Rattle.plain.specs.Lanes.{noPlace}
 use Rattle.plain.specs.Updates.{withPhase, withDown}
 use Rattle.plain.specs.declared.Message.{Message}
+use Rattle.plain.specs.declared.Message.the-variants.{Gone}
 use Rattle.plain.specs.declared.Phase.{Phase}
-use Rattle.plain.specs.declared.Phase.the-variants.{Idle, Holding}
+use Rattle.plain.specs.declared.Phase.the-variants.{Idle, Collecting, Holding, Withdrawing}
 use Rattle.plain.proofs.Passed.{down-full, down-done}
-use Rattle.records.specs.View.{lanesOf, view}
+use Rattle.records.specs.View.{noStation, lanesOf, view}
 use Rattle.records.specs.declared.Lanes.{Lanes}
 use Rattle.records.specs.declared.Record.{Record}
 use Rattle.records.proofs.Storing.{storePhase, storeDown, phase-stored, down-stored}
-use Rattle.calls.specs.Inner.Parts.{askAnswer, Receives}
+use Rattle.records.proofs.Viewing.{phases-at}
+use Rattle.calls.specs.Inner.Parts.{askAnswer, Takes, Receives, afterGone}
 use Rattle.calls.proofs.AskingMember.{ask-full, ask-room, was-full, was-room}
 use Rattle.calls.proofs.TakingMessage.{delivers}
 
@@ -65,7 +68,7 @@ module _ (r : Record) (s j : ℕ) (rest : Lanes) (q : ℕ) (h : Units) (m : ℕ)
       done-as r s j rest receives (room none) ∙ ap (done noUnits noUnits) states
       ∙ sym (is ∙ ask-room (view (storeDown rest r)) s q h m (room none))
 
--- it holds, or is idle: its phase is another
+-- it holds, or goes on as after a GONE: it has a phase
 module _ (r : Record) (s j : ℕ) (rest : Lanes) {t : Taken} (receives : Receives r s j (lanesOf (r .n) rest) t) (long : s < length (r .stations)) where
   rephased : (p : Phase) → withPhase s p (withDown s j (receives .takes .took .lane) (view r)) ≡ view (storePhase s p (storeDown rest r))
   rephased p = sym (phase-stored (storeDown rest r) s p (receives .takes .took .station) long ∙ rw (without-is r s j rest receives))
@@ -75,10 +78,22 @@ module _ (r : Record) (s j : ℕ) (rest : Lanes) (q : ℕ) (h : Units) (receives
   unfolding receivedAs
   holds-done = done-as r s j rest receives refl ∙ ap (done h noUnits) (rephased r s j rest receives long (Holding q h))
 
-module _ (r : Record) (s j : ℕ) (rest : Lanes) (receives : Receives r s j (lanesOf (r .n) rest) Taken.idles) (long : s < length (r .stations)) where
-  pub idles-done : down (view r) s j ≡ done noUnits noUnits (view (storePhase s Idle (storeDown rest r)))
-  unfolding receivedAs
-  idles-done = done-as r s j rest receives refl ∙ ap (done noUnits noUnits) (rephased r s j rest receives long Idle)
+module _ (r : Record) (s j : ℕ) (rest : Lanes) (takes : Takes r s j (view r .down) Gone (lanesOf (r .n) rest)) (long : s < length (r .stations)) where
+  -- in the phase p
+  gone-in : (p : Phase) → view r .phase s ≡ p → down (view r) s j ≡ done noUnits noUnits (view (storePhase s (afterGone p) (storeDown rest r)))
+  unfolding receivedAs left
+  gone-in p e = go p e (record { message = Gone; takes = takes; made = ap left e })
+    where
+      go : (p : Phase) → view r .phase s ≡ p → (receives : Receives r s j (lanesOf (r .n) rest) (left p))
+          → down (view r) s j ≡ done noUnits noUnits (view (storePhase s (afterGone p) (storeDown rest r)))
+      go Idle e receives = done-as r s j rest receives refl ∙ ap (done noUnits noUnits) (rw (at-kept (view r .phase) s Idle e) at (rephased r s j rest receives long Idle))
+      go (Collecting q h m) e receives = done-as r s j rest receives refl ∙ ap (done noUnits noUnits) (rw (at-kept (view r .phase) s (Collecting q h m) e) at (rephased r s j rest receives long (Collecting q h m)))
+      go (Holding q h) e receives = done-as r s j rest receives refl ∙ ap (done noUnits noUnits) (rw (at-kept (view r .phase) s (Holding q h) e) at (rephased r s j rest receives long (Holding q h)))
+      go Withdrawing e receives = done-as r s j rest receives refl ∙ ap (done noUnits noUnits) (rephased r s j rest receives long Idle)
+
+  pub gone-done : down (view r) s j ≡ done noUnits noUnits (view (storePhase s (afterGone (getD (r .stations) s noStation .phase)) (storeDown rest r)))
+  unfolding view
+  gone-done = gone-in (getD (r .stations) s noStation .phase) (phases-at (r .n) (r .stations) s (takes .took .station))
 
 -- it drops the message
 module _ (r : Record) (s j : ℕ) (rest : Lanes) (receives : Receives r s j (lanesOf (r .n) rest) Taken.drops) where

@@ -10,7 +10,7 @@ ghost use Rattle.quorum.specs.Family.{quorum as quorumOf};
 ghost use Rattle.quorum.specs.Limits.{mostStations, mostQuorums};
 ghost use Rattle.records.specs.View.{view, lanesOf};
 ghost use Rattle.calls.specs.Answers.{answerOf};
-ghost use Rattle.calls.specs.Inner.Parts.{Takes, Receives, Wishes};
+ghost use Rattle.calls.specs.Inner.Parts.{afterGone, Takes, Receives, Wishes};
 ghost use Rattle.calls.specs.Inner.Takings.{takenOf, within};
 use crate::Answer;
 use crate::asking;
@@ -115,19 +115,6 @@ fn holds(r: Record, s: usize, j: usize, rest: Lanes, quorum: u8, units: Units) -
     crate::done_with(next, units, units::no_units())
 }
 
-// The station is idle.
-fn idles(r: Record, s: usize, j: usize, rest: Lanes) -> Answer
-    requires { ⌜ Receives r s j (lanesOf (r .n) rest) Taken.idles ⌝ }
-    ensures answer { λ a. ⌜ answerOf a ≡ down (view r) s j ⌝ }
-    ensures accepted { λ a. ⌜ a .refusal ≡ 0 ⌝ }
-{
-    let mut next = r;
-    next.down = rest;
-    let station = Station { phase: Phase::Idle };
-    next.stations[s] = station;
-    crate::done(next)
-}
-
 // The message is dropped.
 fn drops(r: Record, s: usize, j: usize, rest: Lanes) -> Answer
     requires { ⌜ Receives r s j (lanesOf (r .n) rest) Taken.drops ⌝ }
@@ -160,6 +147,25 @@ fn told_grant(r: Record, s: usize, j: usize, rest: Lanes) -> Answer
     }
 }
 
+// What a station does after a GONE.
+fn after_gone(p: Phase) -> Phase
+    ensures { λ r. ⌜ r ≡ afterGone p ⌝ }
+{
+    match p {
+        Phase::Idle => p,
+        Phase::Collecting {
+            quorum: _,
+            units: _,
+            member: _,
+        } => p, // a GONE does not stop it
+        Phase::Holding {
+            quorum: _,
+            units: _,
+        } => p,
+        Phase::Withdrawing => Phase::Idle,
+    }
+}
+
 // GONE reaches it.
 fn told_gone(r: Record, s: usize, j: usize, rest: Lanes) -> Answer
     requires { ⌜ Takes r s j (view r .down) Gone (lanesOf (r .n) rest) ⌝ }
@@ -168,19 +174,13 @@ fn told_gone(r: Record, s: usize, j: usize, rest: Lanes) -> Answer
 {
     let station = r.stations[s];
     let p = station.phase;
-    match p {
-        Phase::Idle => drops(r, s, j, rest),
-        Phase::Collecting {
-            quorum: _,
-            units: _,
-            member: _,
-        } => drops(r, s, j, rest), // a GONE does not stop it
-        Phase::Holding {
-            quorum: _,
-            units: _,
-        } => drops(r, s, j, rest),
-        Phase::Withdrawing => idles(r, s, j, rest),
-    }
+    let mut next = r;
+    next.down = rest;
+    let station = Station {
+        phase: after_gone(p),
+    };
+    next.stations[s] = station;
+    crate::done(next)
 }
 
 // The message m reaches it; no lane down in range has another than GRANT and GONE.
@@ -190,10 +190,8 @@ pub(crate) fn receive(r: Record, s: usize, j: usize, m: Message, rest: Lanes) ->
     ensures refused { λ a. ⌜ (0 < a .refusal → a .«record» ≡ r) ⌝ }
 {
     match m {
-        Message::Request(_) => drops(r, s, j, rest),
-        Message::Release => drops(r, s, j, rest),
         Message::Grant => told_grant(r, s, j, rest),
-        Message::Withdraw => drops(r, s, j, rest),
         Message::Gone => told_gone(r, s, j, rest),
+        _ => drops(r, s, j, rest),
     }
 }

@@ -160,14 +160,8 @@ pub fn release(r: Record, s: usize) -> Answer
     let station = r.stations[s];
     let p = station.phase;
     match p {
-        Phase::Idle => refuse(r, refusals::NOT_HOLDING),
-        Phase::Collecting {
-            quorum: _,
-            units: _,
-            member: _,
-        } => refuse(r, refusals::NOT_HOLDING),
         Phase::Holding { quorum, units } => releases::give_back(r, s, quorum, units),
-        Phase::Withdrawing => refuse(r, refusals::NOT_HOLDING),
+        _ => refuse(r, refusals::NOT_HOLDING),
     }
 }
 
@@ -185,16 +179,11 @@ pub fn withdraw(r: Record, s: usize) -> Answer
     let station = r.stations[s];
     let p = station.phase;
     match p {
-        Phase::Idle => refuse(r, refusals::NOT_COLLECTING),
         Phase::Collecting {
             quorum,
             units: _,
             member,
         } => withdrawals::give_up(r, s, quorum, member),
-        Phase::Holding {
-            quorum: _,
-            units: _,
-        } => refuse(r, refusals::NOT_COLLECTING),
-        Phase::Withdrawing => refuse(r, refusals::NOT_COLLECTING),
+        _ => refuse(r, refusals::NOT_COLLECTING),
     }
 }

@@ -9,6 +9,7 @@ ghost use Rattle.plain.specs.Release.{releasing, releasePasses, release};
 ghost use Rattle.quorum.specs.Limits.{mostStations, mostQuorums};
 ghost use Rattle.records.specs.View.{view, rowOf};
 ghost use Rattle.calls.specs.Answers.{answerOf};
+ghost use Rattle.calls.specs.Inner.Parts.{rowAnswer};
 use crate::Answer;
 use crate::lanes;
 use plain::Message;
@@ -69,24 +70,34 @@ pub(crate) fn release_row(w: Row, n: usize, set: u16) -> Released
     }
 }
 
+// The station has these lanes up, is in this phase, and so many units are left; 14 where one of the lanes is full.
+pub(crate) fn send_row(r: Record, s: usize, sent: Released, phase: Phase, left: Units) -> Answer
+    requires { ⌜ (r .n ≤ mostStations) × (s < r .n) ⌝ }
+    ensures answer { λ a. ⌜ answerOf a ≡ rowAnswer (view r) s (sent .full) (rowOf (r .n) (sent .row)) phase left ⌝ }
+    ensures refused { λ a. ⌜ (0 < a .refusal → a .«record» ≡ r) ⌝ }
+{
+    if sent.full {
+        return crate::refuse(r, crate::NO_PLACE);
+    }
+    let row = sent.row;
+    let mut up = r.up;
+    up.rows[s] = row;
+    let mut next = r;
+    next.up = up;
+    let station = Station { phase };
+    next.stations[s] = station;
+    crate::done_with(next, units::no_units(), left)
+}
+
 // The station is idle, and its units are left.
 pub(crate) fn give_back(r: Record, s: usize, quorum: u8, units: Units) -> Answer
     requires { ⌜ Releases (view r) s quorum units × (s < mostStations) × (quorum < mostQuorums) ⌝ }
     ensures answer { λ a. ⌜ answerOf a ≡ release (view r) s ⌝ }
     ensures refused { λ a. ⌜ (0 < a .refusal → a .«record» ≡ r) ⌝ }
 {
-    let mut up = r.up;
+    let up = r.up;
     let at = quorum as usize;
     let row = up.rows[s];
     let released = release_row(row, r.n as usize, r.table[at]);
-    if released.full {
-        return crate::refuse(r, crate::NO_PLACE);
-    }
-    let longer = released.row;
-    up.rows[s] = longer;
-    let mut next = r;
-    next.up = up;
-    let station = Station { phase: Phase::Idle };
-    next.stations[s] = station;
-    crate::done_with(next, units::no_units(), units)
+    send_row(r, s, released, Phase::Idle, units)
 }

@@ -19,7 +19,6 @@ use plain::Message;
 use plain::Phase;
 use records::Record;
 use records::Row;
-use records::Station;
 use records::UP_PLACES;
 
 // RELEASE goes up to the members of the set below the one now approached, WITHDRAW to that one.
@@ -51,20 +50,9 @@ pub(crate) fn give_up(r: Record, s: usize, quorum: u8, member: u8) -> Answer
     ensures answer { λ a. ⌜ answerOf a ≡ withdraw (view r) s ⌝ }
     ensures refused { λ a. ⌜ (0 < a .refusal → a .«record» ≡ r) ⌝ }
 {
-    let mut up = r.up;
+    let up = r.up;
     let at = quorum as usize;
     let row = up.rows[s];
     let released = withdraw_row(row, r.n as usize, r.table[at], member as usize);
-    if released.full {
-        return crate::refuse(r, crate::NO_PLACE);
-    }
-    let longer = released.row;
-    up.rows[s] = longer;
-    let mut next = r;
-    next.up = up;
-    let station = Station {
-        phase: Phase::Withdrawing,
-    };
-    next.stations[s] = station;
-    crate::done(next)
+    releases::send_row(r, s, released, Phase::Withdrawing, units::no_units())
 }

@@ -1,7 +1,7 @@
 -- A function changed at one place: what it is there, and that it is as before elsewhere.
 -- Assumes nothing.
 use mathlib.Core.Logic.{by-cases}
-use mathlib.Core.Path.{_≡_, refl}
+use mathlib.Core.Path.{_≡_, refl, sym, fun-ext}
 use Prim.Native.Nat.{ℕ}
 use native.Mathlib.Decide.{ℕ-discrete}
 use borrow.Author.Tests.{eq-eqb, ne-eqb}
@@ -15,6 +15,10 @@ module _ {A : Type 0} where
   pub at-other : (f : ℕ → A) (a : ℕ) (x : A) (i : ℕ) → (i ≡ a → ⊥) → at f a x i ≡ f i
   unfolding at
   at-other f a x i d = rw (ne-eqb i a d)
+
+  -- x is what f has at a
+  pub at-kept : (f : ℕ → A) (a : ℕ) (x : A) → f a ≡ x → at f a x ≡ f
+  at-kept f a x e = fun-ext (λ i. by-cases (ℕ-discrete i a) (λ (z : i ≡ a). rw (z, at-same f a x) (sym e)) (λ (d : i ≡ a → ⊥). at-other f a x i d))
 
   -- what holds of x, and of f at i
   pub at-all : (P : A → Type 0) (f : ℕ → A) (a : ℕ) (x : A) → P x → (i : ℕ) → P (f i) → P (at f a x i)

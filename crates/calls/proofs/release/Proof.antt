@@ -15,6 +15,7 @@ use Rattle.plain.specs.declared.Phase.{Phase}
 use Rattle.plain.proofs.Passed.{release-refused}
 use Rattle.records.specs.View.{noStation, view}
 use Rattle.records.proofs.Viewing.{phases-at}
+use Rattle.calls.proofs.LastArms.{not-holding}
 use Rattle.calls.proofs.RecordInRange.{few, quorums-few, holds}
 use Rattle.calls.proofs.release.Statement.{statement}
 use Rattle.calls.proofs.release.Tie as tie
@@ -45,7 +46,11 @@ module _ (c : tie.Else2) where
   below : start .args .s < mostStations
   below = omega (arith, c .if2 .left, few (start .args .t1) range)
 
-  phase-is : view (start .args .t1) .phase (start .args .s) ≡ getD (start .args .t1 .stations) (start .args .s) noStation .phase
+  -- the phase of the station
+  abbrev phase : Phase
+  phase = getD (start .args .t1 .stations) (start .args .s) noStation .phase
+
+  phase-is : view (start .args .t1) .phase (start .args .s) ≡ phase
   unfolding view
   phase-is = phases-at (start .args .t1 .n) (start .args .t1 .stations) (start .args .s) (c .if2 .left)
 
@@ -57,25 +62,13 @@ give-back-requires c κs =
     let holding = c .before .p .given .1 in
     (record { range = range e; station = e .if2 .left; holding = phase-is e ∙ holding }, below e, omega (arith, holds r (range e) (start e .args .s) (e .if2 .left) holding, quorums-few r (range e)))
 
--- idle, collecting or withdrawing
-returns-3 : tie.Need-returns-3
-returns-3 c =
-    let e = c .before .before .before .before in
-    (c .refuse3 .ensures .0 ∙ sym (release-refused _ _ 2 (kept e, ap (λ (p : Phase). not (isHolding p)) (phase-is e ∙ c .before .enum-told .given .1)) refl), λ z. c .refuse3 .ensures .1)
-
 returns-4 : tie.Need-returns-4
 returns-4 c =
-    let e = c .before .before .before .before in
-    (c .refuse4 .ensures .0 ∙ sym (release-refused _ _ 2 (kept e, ap (λ (p : Phase). not (isHolding p)) (phase-is e ∙ c .before .enum-told2 .given .1)) refl), λ z. c .refuse4 .ensures .1)
-
-returns-6 : tie.Need-returns-6
-returns-6 c =
-    let e = c .before .before .before .before in
-    (c .refuse5 .ensures .0 ∙ sym (release-refused _ _ 2 (kept e, ap (λ (p : Phase). not (isHolding p)) (phase-is e ∙ c .before .enum-told3 .given .1)) refl), λ z. c .refuse5 .ensures .1)
+    let e = c .before .before .before in
+    (c .refuse3 .ensures .0 ∙ sym (release-refused _ _ 2 (kept e, ap (λ (p : Phase). not (isHolding p)) (phase-is e) ∙ not-holding (phase e) (c .before .match .keys2)) refl), λ z. c .refuse3 .ensures .1)
 
 pub release-spec : {M : Type 1} → statement M
 release-spec =
     tie.close
     (tie.spec (λ c. search needs) (λ c. search needs) returns (λ c. search needs) (λ c. search needs) returns-2
-    (λ c. omega (arith, below c)) (λ c. omega (arith, below c)) (λ c. search needs) (λ c. search needs) (λ c. search needs) (λ c. search needs) (λ c. search needs)
-    give-back-requires (λ c. search needs) (λ c. search needs) returns-3 returns-4 (λ c. search needs) returns-6)
+    (λ c. omega (arith, below c)) (λ c. omega (arith, below c)) (λ c. search needs) give-back-requires (λ c κs. search needs) (λ c. search needs) returns-4)

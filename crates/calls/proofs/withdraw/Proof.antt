@@ -9,13 +9,13 @@ use borrow.Author.Needs.{needs}
 use borrow.Author.Tests.{not-false, le-leb, lt-leb}
 use Rattle.lists.proofs.Broken.{Kept}
 use Rattle.quorum.specs.Limits.{mostStations}
-use Rattle.plain.specs.Answer.{refused}
 use Rattle.plain.specs.InRange.{inRange}
-use Rattle.plain.specs.Withdraw.{isCollecting, withdrawTests, withdraw}
+use Rattle.plain.specs.Withdraw.{isCollecting, withdrawTests}
 use Rattle.plain.specs.declared.Phase.{Phase}
 use Rattle.plain.proofs.Passed.{withdraw-refused}
 use Rattle.records.specs.View.{noStation, view}
 use Rattle.records.proofs.Viewing.{phases-at}
+use Rattle.calls.proofs.LastArms.{not-collecting}
 use Rattle.calls.proofs.RecordInRange.{table-length, few, quorums-few, wishes}
 use Rattle.calls.proofs.withdraw.Statement.{statement}
 use Rattle.calls.proofs.withdraw.Tie as tie
@@ -46,14 +46,13 @@ module _ (c : tie.Else2) where
   below : start .args .s < mostStations
   below = omega (arith, c .if2 .left, few (start .args .t1) range)
 
-  phase-is : view (start .args .t1) .phase (start .args .s) ≡ getD (start .args .t1 .stations) (start .args .s) noStation .phase
+  -- the phase of the station
+  abbrev phase : Phase
+  phase = getD (start .args .t1 .stations) (start .args .s) noStation .phase
+
+  phase-is : view (start .args .t1) .phase (start .args .s) ≡ phase
   unfolding view
   phase-is = phases-at (start .args .t1 .n) (start .args .t1 .stations) (start .args .s) (c .if2 .left)
-
-  -- idle, holding, or withdrawing
-  not-collecting : {p : Phase} → getD (start .args .t1 .stations) (start .args .s) noStation .phase ≡ p → not (isCollecting p) ≡ true
-      → withdraw (view (start .args .t1)) (start .args .s) ≡ refused (view (start .args .t1)) 20
-  not-collecting is none = withdraw-refused _ _ 2 (kept, ap (λ (p : Phase). not (isCollecting p)) (phase-is ∙ is) ∙ none) refl
 
 give-up-requires : tie.Need-give-up-requires
 unfolding view
@@ -63,18 +62,13 @@ give-up-requires c κs =
     let collecting = c .before .p .given .1 in
     (record { units = _; withdraws = record { range = range e; station = e .if2 .left; collecting = phase-is e ∙ collecting } }, below e, omega (arith, wishes r (range e) (start e .args .s) (e .if2 .left) _ _ _ collecting .0, table-length r, quorums-few r (range e)))
 
-returns-3 : tie.Need-returns-3
-returns-3 c = (c .refuse3 .ensures .0 ∙ sym (not-collecting (c .before .before .before .before) (c .before .enum-told .given .1) refl), λ z. c .refuse3 .ensures .1)
-
-returns-5 : tie.Need-returns-5
-returns-5 c = (c .refuse4 .ensures .0 ∙ sym (not-collecting (c .before .before .before .before) (c .before .enum-told2 .given .1) refl), λ z. c .refuse4 .ensures .1)
-
-returns-6 : tie.Need-returns-6
-returns-6 c = (c .refuse5 .ensures .0 ∙ sym (not-collecting (c .before .before .before .before) (c .before .enum-told3 .given .1) refl), λ z. c .refuse5 .ensures .1)
+returns-4 : tie.Need-returns-4
+returns-4 c =
+    let e = c .before .before .before in
+    (c .refuse3 .ensures .0 ∙ sym (withdraw-refused _ _ 2 (kept e, ap (λ (p : Phase). not (isCollecting p)) (phase-is e) ∙ not-collecting (phase e) (c .before .match .keys2)) refl), λ z. c .refuse3 .ensures .1)
 
 pub withdraw-spec : {M : Type 1} → statement M
 withdraw-spec =
     tie.close
     (tie.spec (λ c. search needs) (λ c. search needs) returns (λ c. search needs) (λ c. search needs) returns-2
-    (λ c. omega (arith, below c)) (λ c. omega (arith, below c)) (λ c. search needs) (λ c. search needs) (λ c. search needs)
-    give-up-requires (λ c. search needs) (λ c. search needs) (λ c. search needs) (λ c. search needs) returns-3 (λ c. search needs) returns-5 returns-6)
+    (λ c. omega (arith, below c)) (λ c. omega (arith, below c)) (λ c. search needs) give-up-requires (λ c κs. search needs) (λ c. search needs) returns-4)

@@ -1,27 +1,28 @@
 -- What the parts of a call rely on, and what they promise to the call.
-use mathlib.Core.Bool.{Bool, true, false}
+use mathlib.Core.Bool.{Bool, true, false, cond}
 use mathlib.Core.List.{List, [], _∷_}
 use mathlib.Core.Path.{_≡_}
 use Prim.Native.Nat.{ℕ, _≤_, _<_, _^_}
 use lib.ListN.{length}
-use Rattle.lists.specs.At.{at2}
+use Rattle.lists.specs.At.{at, at2}
 use Rattle.lists.specs.Broken.{_when_, firstBroken}
 use Rattle.quorum.specs.Family.{quorum}
 use Rattle.quorum.specs.Limits.{mostStations}
 use Rattle.units.specs.Units.{noUnits}
 use Rattle.units.specs.declared.Units.{Units}
-use Rattle.plain.specs.Answer.{Answer, answered}
+use Rattle.plain.specs.Answer.{Answer, answered, refused, done}
 use Rattle.plain.specs.Asking.{askPasses, asking}
 use Rattle.plain.specs.Down.{Taken, takenAt}
 use Rattle.plain.specs.InRange.{inRange}
 use Rattle.plain.specs.Inner.Passed.{Withdraws}
 use Rattle.plain.specs.Lanes.{downPlaces, linePlaces, noPlace}
 use Rattle.plain.specs.State.{State}
+use Rattle.plain.specs.Updates.{withPhase, withUps}
 use Rattle.plain.specs.declared.Entry.{Entry}
 use Rattle.plain.specs.declared.Message.{Message}
 use Rattle.plain.specs.declared.Message.the-variants.{Request, Release, Grant, Withdraw, Gone}
 use Rattle.plain.specs.declared.Phase.{Phase}
-use Rattle.plain.specs.declared.Phase.the-variants.{Collecting}
+use Rattle.plain.specs.declared.Phase.the-variants.{Idle, Collecting, Holding, Withdrawing}
 use Rattle.records.specs.View.{view}
 use Rattle.records.specs.declared.Record.{Record}
 use Rattle.arbiters.specs.Inner.Ready.{Named}
@@ -47,6 +48,10 @@ isWithdrawal Gone = false
 abbrev pub askAnswer : State → ℕ → ℕ → Units → ℕ → Answer
 askAnswer st s q h m = answered st (firstBroken (noPlace when askPasses st s h m ∷ [])) noUnits noUnits (asking st s q h m)
 
+-- what a station answers that has these lanes up, is in this phase and leaves these units, or has no place in one of the lanes
+abbrev pub rowAnswer : State → ℕ → Bool → (ℕ → List Message) → Phase → Units → Answer
+rowAnswer st s full lanes p left = cond full (refused st noPlace) (done noUnits left (withPhase s p (withUps (at (st .up) s lanes) st)))
+
 -- m is the oldest message in the lane of station s and arbiter j, and `rest` are the lanes without it
 pub record Took (n s j : ℕ) (lanes : ℕ → ℕ → List Message) (m : Message) (rest : ℕ → ℕ → List Message) : Type 0 where
   pub station : s < n
@@ -66,6 +71,13 @@ pub record Receives (r : Record) (s j : ℕ) (rest : ℕ → ℕ → List Messag
   pub message : Message
   pub takes : Takes r s j (view r .down) message rest
   pub made : takenAt (view r) s j message ≡ t
+
+-- what a station does after a GONE: "GONE makes it idle; any other station drops GONE"
+abbrev pub afterGone : Phase → Phase
+afterGone Idle = Idle
+afterGone (Collecting q h m) = Collecting q h m
+afterGone (Holding q h) = Holding q h
+afterGone Withdrawing = Idle
 
 -- a station that collects works with a quorum of the table, which names no station from n on
 abbrev pub Wishes : ℕ → List ℕ → Phase → Type 0
