@@ -118,21 +118,10 @@ fn arrive(a: Arbiter, s: usize, m: Message) -> Arrived
             full: false,
             arbiter: a,
         },
-        Message::Withdraw => {
-            let line = a.line;
-            let dropped = dropping::without(line, a.len as usize, s);
-            let rest = dropped.line;
-            let mut granted = a.granted;
-            granted[s] = units::no_units();
-            Arrived {
-                full: false,
-                arbiter: Arbiter {
-                    granted,
-                    len: dropped.len,
-                    line: rest,
-                },
-            }
-        }
+        Message::Withdraw => Arrived {
+            full: false,
+            arbiter: dropping::forget(a, s),
+        },
         Message::Gone => Arrived {
             full: false,
             arbiter: a,

@@ -1,21 +1,24 @@
-// The entries of one station are dropped from a line.
+// An arbiter forgets a station that withdraws: its entries are dropped from the line, and its grant.
 ghost use mathlib.Core.Path.{_≡_};
-ghost use Prim.Native.Nat.{_≤_};
+ghost use Prim.Native.Nat.{ℕ, _≤_, _<_};
 ghost use Rattle.lists.specs.Cut.{cut};
-ghost use Rattle.plain.specs.Arbiter.{without as withoutOf};
+ghost use Rattle.plain.specs.Arbiter.{without as withoutOf, arrived};
 ghost use Rattle.plain.specs.Lanes.{linePlaces};
-ghost use Rattle.records.specs.View.{noEntry};
+ghost use Rattle.plain.specs.declared.Message.the-variants.{Withdraw};
+ghost use Rattle.quorum.specs.Limits.{mostStations};
+ghost use Rattle.records.specs.View.{noEntry, arbiterOf};
 use plain::Entry;
+use records::Arbiter;
 use records::LINE_PLACES;
 
 // A line without the entries of station s, and how many entries it has.
-pub(crate) struct Dropped {
+struct Dropped {
     pub len: u8,
     pub line: [Entry; LINE_PLACES],
 }
 
 // Every entry of station s leaves the line; the others stay in their order.
-pub(crate) fn without(line: [Entry; LINE_PLACES], len: usize, s: usize) -> Dropped
+fn without(line: [Entry; LINE_PLACES], len: usize, s: usize) -> Dropped
     requires { ⌜ len ≤ linePlaces ⌝ }
     ensures { λ r. ⌜ (cut noEntry (r .len) (r .line) ≡ withoutOf s (cut noEntry len line)) × (r .len ≤ len) ⌝ }
 {
@@ -33,5 +36,22 @@ pub(crate) fn without(line: [Entry; LINE_PLACES], len: usize, s: usize) -> Dropp
     Dropped {
         len: kept as u8,
         line: out,
+    }
+}
+
+// The arbiter when station s has withdrawn.
+pub(crate) fn forget(a: Arbiter, s: usize) -> Arbiter
+    requires { ⌜ (s < mostStations) × (a .len ≤ linePlaces) ⌝ }
+    ensures { λ r. ⌜ ((n : ℕ) → s < n → arbiterOf n r ≡ arrived Withdraw s (arbiterOf n a)) ⌝ }
+{
+    let line = a.line;
+    let dropped = without(line, a.len as usize, s);
+    let rest = dropped.line;
+    let mut granted = a.granted;
+    granted[s] = units::no_units();
+    Arbiter {
+        granted,
+        len: dropped.len,
+        line: rest,
     }
 }

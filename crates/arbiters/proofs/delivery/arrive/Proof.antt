@@ -7,7 +7,7 @@ use borrow.Author.Needs.{needs}
 use Rattle.plain.specs.Arbiter.{arrived}
 use Rattle.plain.specs.declared.Message.the-variants.{Release, Grant, Gone}
 use Rattle.records.proofs.Good.{line-of, granted-of}
-use Rattle.arbiters.proofs.ArrivingMessage.{request-passes, request-room, others-room, withdraw-room, request-joins, release-clears, withdraw-drops}
+use Rattle.arbiters.proofs.ArrivingMessage.{request-passes, request-room, others-room, withdraw-room, request-joins, release-clears}
 use Rattle.arbiters.proofs.delivery.arrive.Statement.{statement}
 use Rattle.arbiters.proofs.delivery.arrive.Tie as tie
 
@@ -45,15 +45,9 @@ returns-4 c =
 
 returns-5 : tie.Need-returns-5
 returns-5 c =
-    let w = c .before .before .before in
-    let t = w .before .before .before in
+    let t = c .before in
     let st = t .before .before in
-    let a = st .args .a in
-    let long = granted-of a _ (st .good .0) in (
-      λ n. rw (t .enum-told3 .given .1) (sym (withdraw-room n (st .args .s) a (st .pre .1))),
-      λ z n p. rw (t .enum-told3 .given .1, c .no-units2 .ensures)
-          (withdraw-drops n (st .args .s) a (w .without .result .len) (w .without .result .line) p (omega arith) (w .without .ensures .0)),
-    )
+    (λ n. rw (t .enum-told3 .given .1) (sym (withdraw-room n (st .args .s) (st .args .a) (st .pre .1))), λ z n p. rw (t .enum-told3 .given .1) (c .forget .ensures n p))
 
 returns-6 : tie.Need-returns-6
 unfolding arrived
@@ -66,5 +60,4 @@ arrive-spec =
     tie.close
     (tie.spec
     (λ c. search needs) (λ c. search needs) returns (λ c. search needs) (λ c. search needs) (λ c. search needs) (λ c. search needs) (λ c. search needs) (λ c κs. search needs)
-    (λ c. search needs) (λ c. search needs) (λ c. search needs) (λ c. search needs) (λ c κs. search needs) (λ c κs. search needs) (λ c. search needs) (λ c. search needs)
-    returns-2 returns-3 returns-4 returns-5 returns-6)
+    (λ c. search needs) (λ c. search needs) (λ c. search needs) (λ c κs. search needs) (λ c. search needs) returns-2 returns-3 returns-4 returns-5 returns-6)
