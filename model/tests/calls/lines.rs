@@ -2,7 +2,8 @@
 
 use super::compare::{self, Met};
 use model::rng::Rng;
-use model::text::WORDS;
+use model::text::{number_step, WORDS};
+use pafluzeno::{header, read_record};
 
 /// The comparisons of each test, at least.
 pub const OF_EVERY_KEY: usize = 200_000;
@@ -109,6 +110,40 @@ fn every_number() {
         compare::line(b"units", text.as_bytes(), &mut met);
     }
     met.assert(NUMBERS, &[(0, 65_536), (15, 34_464)]);
+}
+
+/// The number step of document 02 against the library's readers, and against digits that are counted first and valued then:
+/// every value, with every end and with every byte behind it.
+#[test]
+fn number_steps() {
+    let rest: &[u8] = b"with=0\nunits=0\nrefused=0\nentered=0\nleft=0\n";
+    let (mut good, mut bad) = (0, 0);
+    let bytes = (0..=255).map(|byte| vec![byte]);
+    let ends: Vec<Vec<u8>> = ends().iter().map(|e| e.to_vec()).chain(bytes).collect();
+    for value in values() {
+        for end in &ends {
+            let text = [value, end, rest].concat();
+            let (number, count) = number_step(&text, b'\n');
+            let part = header::read_line(b"station", &[b"station=", &text[..]].concat());
+            assert_eq!(part.len + usize::from(part.len > 0), count, "{text:?}");
+            if count == 0 {
+                assert_eq!(number, 0);
+                bad += 1;
+                continue;
+            }
+            let digits = text.iter().take_while(|b| b.is_ascii_digit()).count();
+            let valued = |v: usize, b: &u8| 10 * v + usize::from(b - b'0');
+            let twice = (text[..digits].iter().fold(0, valued), digits + 1);
+            assert_eq!((number, count), twice, "{text:?}");
+            if text[count..] == *rest {
+                let text = [b"do=up\nstation=", &text[..]].concat();
+                let (record, after) = read_record(&text).expect("a record");
+                assert_eq!((record.station.into(), after.len()), (number, 0));
+                good += 1;
+            }
+        }
+    }
+    assert!(good >= 30 && bad >= 20_000, "{good} good, {bad} bad");
 }
 
 /// Lines cut at every byte, and with every byte at every place.
