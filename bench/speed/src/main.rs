@@ -4,11 +4,14 @@ mod checks;
 mod clock;
 mod journals;
 mod pace;
+mod plain_reader;
 mod process;
+mod reading;
 mod report;
 mod straightforward;
 mod tables;
 mod texts;
+mod year;
 
 use process::Folder;
 
@@ -18,16 +21,19 @@ fn compare() {
     );
     println!("Each time is the shortest of so many runs, the two taken in turns:");
     println!(
-        "{} of a check ({} of the model's), {} of pace, {} of a journal.",
+        "{} of a check ({} of the model's), {} of pace, {} of a journal, {} of reading ({} of the model's).",
         checks::ROUNDS,
         checks::ROUNDS / checks::MODEL_EVERY,
         pace::ROUNDS,
-        journals::ROUNDS
+        journals::ROUNDS,
+        reading::ROUNDS,
+        reading::ROUNDS / reading::MODEL_EVERY
     );
     let folder = Folder::new();
     checks::compare();
     pace::compare(&folder);
     journals::compare(&folder);
+    reading::compare();
 }
 
 fn main() {
