@@ -179,7 +179,7 @@ struct pafluzeno_read pafluzeno_read_record(const uint8_t *text, size_t text_len
 
 /* The text after that record, as the part to be read next: it begins where the record ends and goes on to the end of the text. Where the
  * reader of a record answers 15, it is the empty part at the end of the text; but it is empty too behind the last record of a good text, and
- * only the reader tells which. */
+ * only the reader tells which. It reads the record to find its end: a loop that wants the records as well goes by `taken`, and reads each once. */
 struct pafluzeno_part pafluzeno_after_record(const uint8_t *text, size_t text_len);
 
 /* What the writer of a record answers: the refusal and the place after the record, on a refusal the place that it was given. */
