@@ -12,9 +12,8 @@ use Rattle.lists.specs.At.{at2}
 use Rattle.lists.proofs.Broken.{first-later}
 use Rattle.lists.proofs.Tests.{known}
 use Rattle.stations.specs.Sets.{lowestFrom}
-use Rattle.units.specs.Units.{noUnits}
 use Rattle.units.specs.declared.Units.{Units}
-use Rattle.plain.specs.Answer.{Answer, refused, done, answered}
+use Rattle.plain.specs.Answer.{Answer, nothing, refused, done, answered}
 use Rattle.plain.specs.Asking.{askPasses, asking}
 use Rattle.plain.specs.Inner.Passed.{Requests}
 use Rattle.plain.specs.Lanes.{upPlaces, noPlace, passes, sent}
@@ -49,7 +48,7 @@ module _ (st : State) (s q : ℕ) (h : Units) (m : ℕ) where
   unfolding answered
   ask-full f = rw f
 
-  pub ask-room : askPasses st s h m ≡ false → askAnswer st s q h m ≡ done noUnits noUnits (asking st s q h m)
+  pub ask-room : askPasses st s h m ≡ false → askAnswer st s q h m ≡ done nothing (asking st s q h m)
   unfolding answered
   ask-room f = rw f
 
@@ -75,16 +74,16 @@ module _ (r : Record) (s q : ℕ) (h : Units) (m : ℕ) (l : Lane) (at-lane : la
     unfolding view
     states = rw at-lane (sym (phase-stored (storeUp lanes r) s (Collecting q h m) exists long ∙ rw put))
 
-    pub asked-goes : l .len < upPlaces → askAnswer (view r) s q h m ≡ done noUnits noUnits (view (storePhase s (Collecting q h m) (storeUp lanes r)))
+    pub asked-goes : l .len < upPlaces → askAnswer (view r) s q h m ≡ done nothing (view (storePhase s (Collecting q h m) (storeUp lanes r)))
     unfolding view
-    asked-goes f = ask-room (view r) s q h m (rw at-lane (lane-room upPlaces l (Request h) f)) ∙ ap (done noUnits noUnits) states
+    asked-goes f = ask-room (view r) s q h m (rw at-lane (lane-room upPlaces l (Request h) f)) ∙ ap (done nothing) states
 
 -- ---- Request asks the lowest member
 
 pub request-asks : (st : State) (s q : ℕ) (h : Units) → Requests st s q h → request st s q h ≡ askAnswer st s q h (lowest st q)
 unfolding request requestRefusal requested
 request-asks st s q h r =
-    ap (λ (x : ℕ). answered st x noUnits noUnits (requested st s q h)) (first-later (take 5 (requestTests st s q h)) (drop 5 (requestTests st s q h)) (request-kept st s q h r))
+    ap (λ (x : ℕ). answered st x nothing (requested st s q h)) (first-later (take 5 (requestTests st s q h)) (drop 5 (requestTests st s q h)) (request-kept st s q h r))
 
 module _ (r : Record) (s q : ℕ) (h : Units) (passed : Requests (view r) s q h) where
   exists : q < r .quorums

@@ -7,8 +7,7 @@ use Prim.Native.Nat.{ℕ, _<_}
 use lib.ListN.{length, getD}
 use Rattle.lists.specs.Search.{someBelow}
 use Rattle.lists.proofs.Tests.{or-left, or-right}
-use Rattle.units.specs.Units.{noUnits}
-use Rattle.plain.specs.Answer.{refused, done}
+use Rattle.plain.specs.Answer.{nothing, refused, done}
 use Rattle.plain.specs.Arbiter.{arrived, Served, served}
 use Rattle.plain.specs.Lanes.{downPlaces, linePlaces, noPlace, passes}
 use Rattle.plain.specs.State.{Arbiter as PlainArbiter}
@@ -61,6 +60,6 @@ module _ (r : Record) (s j : ℕ) (m : Message) (rest : Lanes) (takes : Takes r 
       states = rw (arbiter-is, arbiters-with (r .n) (r .arbiters) j after (takes .took .arbiter) long, a, c, are, takes .took .others)
 
       pub all-stored : passes linePlaces (joined .line) ≡ false → someBelow (passing grants) (r .n) ≡ false
-          → up (view r) s j ≡ done noUnits noUnits (view (storeDown sent (storeArbiter j after (storeUp rest r))))
+          → up (view r) s j ≡ done nothing (view (storeDown sent (storeArbiter j after (storeUp rest r))))
       unfolding view
-      all-stored f g = up-done (view r) s j (delivers r s j takes) (rw (arbiter-is, f) (rw are at g)) ∙ ap (done noUnits noUnits) states
+      all-stored f g = up-done (view r) s j (delivers r s j takes) (rw (arbiter-is, f) (rw are at g)) ∙ ap (done nothing) states

@@ -8,9 +8,8 @@ use lib.ListN.{length, getD, set}
 use Rattle.lists.specs.At.{at}
 use Rattle.lists.specs.Search.{someBelow}
 use Rattle.quorum.specs.Family.{quorum}
-use Rattle.units.specs.Units.{noUnits}
 use Rattle.units.specs.declared.Units.{Units}
-use Rattle.plain.specs.Answer.{Answer, refused, done}
+use Rattle.plain.specs.Answer.{Answer, leftOnly, refused, done}
 use Rattle.plain.specs.Inner.Passed.{Releases}
 use Rattle.plain.specs.Lanes.{noPlace}
 use Rattle.plain.specs.Release.{releasing, releasePasses, givenBack, release}
@@ -48,7 +47,7 @@ module _ (r : Record) (s q : ℕ) (station : s < r .n) (exists : q < r .quorums)
     (p : Phase) (left : Units) (call : Answer) where
   pub row-answer : (full (quorum (view r .table) q) (view r .up s) ≡ true → call ≡ refused (view r) noPlace)
       → (full (quorum (view r .table) q) (view r .up s) ≡ false
-      → call ≡ done noUnits left (withPhase s p (withUps (at (view r .up) s (goes (quorum (view r .table) q) (view r .up s))) (view r))))
+      → call ≡ done (leftOnly left) (withPhase s p (withUps (at (view r .up) s (goes (quorum (view r .table) q) (view r .up s))) (view r))))
       → (b : Bool) (lanes : ℕ → List Message) → b ≡ full (set-of r q) (lanes-of r s) → (b ≡ false → lanes ≡ goes (set-of r q) (lanes-of r s))
       → rowAnswer (view r) s b lanes p left ≡ call
   unfolding view

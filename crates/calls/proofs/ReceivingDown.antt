@@ -6,11 +6,10 @@ use mathlib.Core.Path.{_≡_, refl, sym, ap, _∙_}
 use Prim.Native.Nat.{ℕ, _<_}
 use lib.ListN.{length, getD}
 use Rattle.lists.proofs.Changed.{at-kept}
-use Rattle.units.specs.Units.{noUnits}
 use Rattle.units.specs.declared.Units.{Units}
-use Rattle.plain.specs.Answer.{Answer, refused, done}
+use Rattle.plain.specs.Answer.{Answer, nothing, enteredOnly, withState, refused, done}
 use Rattle.plain.specs.Asking.{askPasses, asking}
-use Rattle.plain.specs.Down.{Taken, left, enters, downPasses, receivedAs, down}
+use Rattle.plain.specs.Down.{Taken, left, returned, downPasses, receivedAs, down}
 use Rattle.plain.specs.Lanes.{noPlace}
 use Rattle.plain.specs.Updates.{withPhase, withDown}
 use Rattle.plain.specs.declared.Message.{Message}
@@ -42,18 +41,18 @@ module _ (r : Record) (s j : ℕ) (rest : Lanes) {t : Taken} (receives : Receive
   full-as : downPasses (view r) s t ≡ true → down (view r) s j ≡ refused (view r) noPlace
   full-as f = down-full (view r) s j (delivers r s j (receives .takes)) (rw (receives .made) f)
 
-  done-as : downPasses (view r) s t ≡ false → down (view r) s j ≡ done (enters t) noUnits (receivedAs (view r) s j lane t)
+  done-as : downPasses (view r) s t ≡ false → down (view r) s j ≡ done (returned t) (receivedAs (view r) s j lane t)
   done-as f = rw (receives .made) at (down-done (view r) s j (delivers r s j (receives .takes)) (rw (receives .made) f))
 
 -- it asks: what asking answers on the record without the message, a refusal hands back the whole
 module _ (r : Record) (s j : ℕ) (rest : Lanes) (q : ℕ) (h : Units) (m : ℕ) (receives : Receives r s j (lanesOf (r .n) rest) (Taken.asks q h m))
     (a : Answer) (is : a ≡ askAnswer (view (storeDown rest r)) s q h m) where
-  pub asks-full : (a .refusal ≡ 0 → ⊥) → down (view r) s j ≡ record { refusal = a .refusal; entered = a .entered; left = a .left; state = view r }
+  pub asks-full : (a .refusal ≡ 0 → ⊥) → down (view r) s j ≡ withState (view r) a
   unfolding view
   asks-full some =
       let full = was-full (view (storeDown rest r)) s q h m a is some in
       full-as r s j rest receives full
-      ∙ sym (ap (λ (x : Answer). record { refusal = x .refusal; entered = x .entered; left = x .left; state = view r }) (is ∙ ask-full (view (storeDown rest r)) s q h m full))
+      ∙ sym (ap (withState (view r)) (is ∙ ask-full (view (storeDown rest r)) s q h m full))
 
   room : a .refusal ≡ 0 → askPasses (view (storeDown rest r)) s h m ≡ false
   room none = was-room (view (storeDown rest r)) s q h m a is none
@@ -65,7 +64,7 @@ module _ (r : Record) (s j : ℕ) (rest : Lanes) (q : ℕ) (h : Units) (m : ℕ)
   pub asks-done : a .refusal ≡ 0 → down (view r) s j ≡ a
   unfolding view
   asks-done none =
-      done-as r s j rest receives (room none) ∙ ap (done noUnits noUnits) states
+      done-as r s j rest receives (room none) ∙ ap (done nothing) states
       ∙ sym (is ∙ ask-room (view (storeDown rest r)) s q h m (room none))
 
 -- it holds, or goes on as after a GONE: it has a phase
@@ -74,24 +73,24 @@ module _ (r : Record) (s j : ℕ) (rest : Lanes) {t : Taken} (receives : Receive
   rephased p = sym (phase-stored (storeDown rest r) s p (receives .takes .took .station) long ∙ rw (without-is r s j rest receives))
 
 module _ (r : Record) (s j : ℕ) (rest : Lanes) (q : ℕ) (h : Units) (receives : Receives r s j (lanesOf (r .n) rest) (Taken.holds q h)) (long : s < length (r .stations)) where
-  pub holds-done : down (view r) s j ≡ done h noUnits (view (storePhase s (Holding q h) (storeDown rest r)))
+  pub holds-done : down (view r) s j ≡ done (enteredOnly h) (view (storePhase s (Holding q h) (storeDown rest r)))
   unfolding receivedAs
-  holds-done = done-as r s j rest receives refl ∙ ap (done h noUnits) (rephased r s j rest receives long (Holding q h))
+  holds-done = done-as r s j rest receives refl ∙ ap (done (enteredOnly h)) (rephased r s j rest receives long (Holding q h))
 
 module _ (r : Record) (s j : ℕ) (rest : Lanes) (takes : Takes r s j (view r .down) Gone (lanesOf (r .n) rest)) (long : s < length (r .stations)) where
   -- in the phase p
-  gone-in : (p : Phase) → view r .phase s ≡ p → down (view r) s j ≡ done noUnits noUnits (view (storePhase s (afterGone p) (storeDown rest r)))
+  gone-in : (p : Phase) → view r .phase s ≡ p → down (view r) s j ≡ done nothing (view (storePhase s (afterGone p) (storeDown rest r)))
   unfolding receivedAs left
   gone-in p e = go p e (record { message = Gone; takes = takes; made = ap left e })
     where
       go : (p : Phase) → view r .phase s ≡ p → (receives : Receives r s j (lanesOf (r .n) rest) (left p))
-          → down (view r) s j ≡ done noUnits noUnits (view (storePhase s (afterGone p) (storeDown rest r)))
-      go Idle e receives = done-as r s j rest receives refl ∙ ap (done noUnits noUnits) (rw (at-kept (view r .phase) s Idle e) at (rephased r s j rest receives long Idle))
-      go (Collecting q h m) e receives = done-as r s j rest receives refl ∙ ap (done noUnits noUnits) (rw (at-kept (view r .phase) s (Collecting q h m) e) at (rephased r s j rest receives long (Collecting q h m)))
-      go (Holding q h) e receives = done-as r s j rest receives refl ∙ ap (done noUnits noUnits) (rw (at-kept (view r .phase) s (Holding q h) e) at (rephased r s j rest receives long (Holding q h)))
-      go Withdrawing e receives = done-as r s j rest receives refl ∙ ap (done noUnits noUnits) (rephased r s j rest receives long Idle)
+          → down (view r) s j ≡ done nothing (view (storePhase s (afterGone p) (storeDown rest r)))
+      go Idle e receives = done-as r s j rest receives refl ∙ ap (done nothing) (rw (at-kept (view r .phase) s Idle e) at (rephased r s j rest receives long Idle))
+      go (Collecting q h m) e receives = done-as r s j rest receives refl ∙ ap (done nothing) (rw (at-kept (view r .phase) s (Collecting q h m) e) at (rephased r s j rest receives long (Collecting q h m)))
+      go (Holding q h) e receives = done-as r s j rest receives refl ∙ ap (done nothing) (rw (at-kept (view r .phase) s (Holding q h) e) at (rephased r s j rest receives long (Holding q h)))
+      go Withdrawing e receives = done-as r s j rest receives refl ∙ ap (done nothing) (rephased r s j rest receives long Idle)
 
-  pub gone-done : down (view r) s j ≡ done noUnits noUnits (view (storePhase s (afterGone (getD (r .stations) s noStation .phase)) (storeDown rest r)))
+  pub gone-done : down (view r) s j ≡ done nothing (view (storePhase s (afterGone (getD (r .stations) s noStation .phase)) (storeDown rest r)))
   unfolding view
   gone-done = gone-in (getD (r .stations) s noStation .phase) (phases-at (r .n) (r .stations) s (takes .took .station))
 
@@ -101,5 +100,5 @@ module _ (r : Record) (s j : ℕ) (rest : Lanes) (receives : Receives r s j (lan
   unfolding receivedAs
   dropped = sym (without-is r s j rest receives)
 
-  pub drops-done : down (view r) s j ≡ done noUnits noUnits (view (storeDown rest r))
-  drops-done = done-as r s j rest receives refl ∙ ap (done noUnits noUnits) dropped
+  pub drops-done : down (view r) s j ≡ done nothing (view (storeDown rest r))
+  drops-done = done-as r s j rest receives refl ∙ ap (done nothing) dropped

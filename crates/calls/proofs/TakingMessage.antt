@@ -7,8 +7,7 @@ use Prim.Native.Nat.{ℕ}
 use borrow.Author.Tests.{ne-eqb}
 use Rattle.lists.specs.Broken.{_when_, firstBroken}
 use Rattle.lists.proofs.Broken.{first-earlier}
-use Rattle.units.specs.declared.Units.{Units}
-use Rattle.plain.specs.Answer.{refused, answered}
+use Rattle.plain.specs.Answer.{Returned, refused, answered}
 use Rattle.plain.specs.Delivery.{laneTests, deliveryRefusal}
 use Rattle.plain.specs.Down.{down}
 use Rattle.plain.specs.Inner.Passed.{Delivers}
@@ -23,21 +22,21 @@ use Rattle.records.specs.declared.Record.{Record}
 use Rattle.calls.specs.Inner.Parts.{Takes}
 
 -- a record in range, and 8 or 13
-lane-refused : (st : State) (s j : ℕ) (lane : List Message) (full : Message → Bool) (entered left : Units) (next : State) (r : ℕ)
-    → inRange st ≡ true → r ≡ firstBroken (laneTests (st .n) s j lane) → (r ≡ 0 → ⊥) → delivery st s j lane full entered left next ≡ refused st r
+lane-refused : (st : State) (s j : ℕ) (lane : List Message) (full : Message → Bool) (x : Returned) (next : State) (r : ℕ)
+    → inRange st ≡ true → r ≡ firstBroken (laneTests (st .n) s j lane) → (r ≡ 0 → ⊥) → delivery st s j lane full x next ≡ refused st r
 unfolding answered deliveryRefusal
-lane-refused st s j lane full entered left next r range is some =
+lane-refused st s j lane full x next r range is some =
     let first = first-earlier (laneTests (st .n) s j lane) (noPlace when oldest full lane ∷ []) (λ z. some (is ∙ z)) in
     rw (range, first, ← is, ne-eqb r 0 some)
 
 module _ (st : State) (s j r : ℕ) (range : inRange st ≡ true) (some : r ≡ 0 → ⊥) where
   pub up-turned : r ≡ firstBroken (laneTests (st .n) s j (st .up s j)) → up st s j ≡ refused st r
   unfolding up
-  up-turned is = lane-refused st s j (st .up s j) _ _ _ _ r range is some
+  up-turned is = lane-refused st s j (st .up s j) _ _ _ r range is some
 
   pub down-turned : r ≡ firstBroken (laneTests (st .n) s j (st .down s j)) → down st s j ≡ refused st r
   unfolding down
-  down-turned is = lane-refused st s j (st .down s j) _ _ _ _ r range is some
+  down-turned is = lane-refused st s j (st .down s j) _ _ _ r range is some
 
 -- a message was taken
 pub delivers : (r : Record) (s j : ℕ) {lanes : ℕ → ℕ → List Message} {m : Message} {rest : ℕ → ℕ → List Message} (t : Takes r s j lanes m rest)

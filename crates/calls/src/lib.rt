@@ -1,14 +1,14 @@
 // The five calls of a station on a record by value: each tests its refusals in their order, then does what is asked.
 ghost use mathlib.Core.Path.{_≡_};
 ghost use Prim.Native.Nat.{_<_};
-ghost use Rattle.plain.specs.Answer.{refused as refusedBy, done as doneWith};
+ghost use Rattle.plain.specs.Answer.{nothing, refused as refusedBy, done as doneWith};
 ghost use Rattle.plain.specs.Down.{down as downOf};
 ghost use Rattle.plain.specs.Release.{release as releaseOf};
 ghost use Rattle.plain.specs.Request.{isIdle, request as requestOf};
 ghost use Rattle.plain.specs.Up.{up as upOf};
 ghost use Rattle.plain.specs.Withdraw.{withdraw as withdrawOf};
 ghost use Rattle.records.specs.View.{view};
-ghost use Rattle.units.specs.Units.{noUnits, unitsOf};
+ghost use Rattle.units.specs.Units.{unitsOf};
 ghost use Rattle.calls.specs.Answers.{answerOf};
 use plain::Phase;
 use records::Record;
@@ -49,7 +49,7 @@ fn refuse(r: Record, refusal: u8) -> Answer
 
 // A call that is done, with these units entered and left.
 fn done_with(r: Record, entered: Units, left: Units) -> Answer
-    ensures answer { λ a. ⌜ answerOf a ≡ doneWith entered left (view r) ⌝ }
+    ensures answer { λ a. ⌜ answerOf a ≡ doneWith (record { entered = entered; left = left }) (view r) ⌝ }
     ensures accepted { λ a. ⌜ a .refusal ≡ 0 ⌝ }
 {
     Answer {
@@ -62,7 +62,7 @@ fn done_with(r: Record, entered: Units, left: Units) -> Answer
 
 // A call that is done and neither enters nor leaves units.
 fn done(r: Record) -> Answer
-    ensures answer { λ a. ⌜ answerOf a ≡ doneWith noUnits noUnits (view r) ⌝ }
+    ensures answer { λ a. ⌜ answerOf a ≡ doneWith nothing (view r) ⌝ }
     ensures accepted { λ a. ⌜ a .refusal ≡ 0 ⌝ }
 {
     let none = units::no_units();

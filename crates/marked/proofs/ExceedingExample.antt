@@ -14,7 +14,7 @@ use Rattle.units.specs.Units.{requestIn, grantIn, fits, only, askedWith, askedB
 use Rattle.plain.specs.Answer.{answered}
 use Rattle.plain.specs.Arbiter.{arrived, serve, unitsIn}
 use Rattle.plain.specs.Delivery.{deliveryRefusal}
-use Rattle.plain.specs.Down.{onward, taken, receivedAs, received, entering, down}
+use Rattle.plain.specs.Down.{onward, taken, receivedAs, received, returning, down}
 use Rattle.plain.specs.Exceeding.{visits, collects, exceeds, exceeding}
 use Rattle.plain.specs.InRange.{goesUp, goesDown, phaseIn, entryIn, arbiterIn, inRange}
 use Rattle.plain.specs.Lanes.{keeps}
@@ -29,5 +29,5 @@ unfolding commonWithin families firstFamily emptied leastSize width member visit
 six-units = refl
 
 pub six-entered : map said (run (fresh 2 (stockOf 5) (1 ∷ (2 ∷ []))) (exceeding 2 (stockOf 5) (1 ∷ (2 ∷ [])))) ≡ done ∷ (done ∷ (enters 1 ∷ (done ∷ (done ∷ (enters 5 ∷ [])))))
-unfolding commonWithin families firstFamily emptied leastSize width member visits collects exceeds exceeding brokenLimit lowestAmong lowestFrom at total fresh answered arrived fits serve unitsIn onward taken receivedAs received entering down goesUp goesDown keeps phaseIn entryIn arbiterIn inRange requestRefusal requested request call run replying granting deliveryRefusal deliveredOf delivered up only askedWith askedBy unitsOf stockOf requestIn grantIn
+unfolding commonWithin families firstFamily emptied leastSize width member visits collects exceeds exceeding brokenLimit lowestAmong lowestFrom at total fresh answered arrived fits serve unitsIn onward taken receivedAs received returning down goesUp goesDown keeps phaseIn entryIn arbiterIn inRange requestRefusal requested request call run replying granting deliveryRefusal deliveredOf delivered up only askedWith askedBy unitsOf stockOf requestIn grantIn
 six-entered = refl

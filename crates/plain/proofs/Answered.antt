@@ -7,22 +7,21 @@ use Prim.Native.Nat.{ℕ}
 use lib.Dec.{ltb}
 use Rattle.lists.specs.Broken.{Test, firstBroken}
 use Rattle.lists.proofs.Broken.{Kept, numberAt, BrokenAt, done-or-as, tests-done, tests-refuse}
-use Rattle.units.specs.declared.Units.{Units}
-use Rattle.plain.specs.Answer.{Answer, refused, done, answered}
+use Rattle.plain.specs.Answer.{Answer, Returned, refused, done, answered}
 use Rattle.plain.specs.State.{State}
 
-module _ (st : State) (e l : Units) (next : State) where
+module _ (st : State) (x : Returned) (next : State) where
   -- an answer says that the call was done, or that it was refused and all is as it was
-  pub answered-as : (P : Answer → Type 0) (r : ℕ) → (r ≡ 0 → P (done e l next)) → P (refused st r) → P (answered st r e l next)
+  pub answered-as : (P : Answer → Type 0) (r : ℕ) → (r ≡ 0 → P (done x next)) → P (refused st r) → P (answered st r x next)
   unfolding answered
-  answered-as P r is-done not-done = done-or-as (done e l next) (refused st) P r is-done not-done
+  answered-as P r is-done not-done = done-or-as (done x next) (refused st) P r is-done not-done
 
   -- no test is broken
-  pub answered-done : (tests : List Test) → Kept tests → answered st (firstBroken tests) e l next ≡ done e l next
+  pub answered-done : (tests : List Test) → Kept tests → answered st (firstBroken tests) x next ≡ done x next
   unfolding answered
-  answered-done tests k = tests-done (done e l next) (refused st) tests k
+  answered-done tests k = tests-done (done x next) (refused st) tests k
 
   -- the test at place i is, and none before it
-  pub answered-refused : (i : ℕ) (tests : List Test) → BrokenAt i tests → ltb 0 (numberAt i tests) ≡ true → answered st (firstBroken tests) e l next ≡ refused st (numberAt i tests)
+  pub answered-refused : (i : ℕ) (tests : List Test) → BrokenAt i tests → ltb 0 (numberAt i tests) ≡ true → answered st (firstBroken tests) x next ≡ refused st (numberAt i tests)
   unfolding answered
-  answered-refused i tests b n = tests-refuse (done e l next) (refused st) i tests b n
+  answered-refused i tests b n = tests-refuse (done x next) (refused st) i tests b n

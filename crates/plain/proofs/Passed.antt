@@ -9,11 +9,10 @@ use lib.ListN.{length, take}
 use borrow.Author.Tests.{leb-false, lt-leb, not-false}
 use Rattle.lists.proofs.Broken.{Kept, kept-both, passes-kept, numberAt, BrokenAt}
 use Rattle.lists.proofs.Tests.{clash, or-none}
-use Rattle.units.specs.Units.{noUnits}
 use Rattle.units.specs.declared.Units.{Units}
-use Rattle.plain.specs.Answer.{Answer, refused, done, answered}
+use Rattle.plain.specs.Answer.{Answer, Returned, nothing, leftOnly, refused, done, answered}
 use Rattle.plain.specs.Delivery.{deliveryTests, deliveryRefusal}
-use Rattle.plain.specs.Down.{enters, takenAt, downPassesOf, downTests, receivedAs, received, entering, down}
+use Rattle.plain.specs.Down.{takenAt, downPassesOf, downTests, receivedAs, returned, received, returning, down}
 use Rattle.plain.specs.Inner.Passed.{Requests, Delivers, Releases, Withdraws}
 use Rattle.plain.specs.InRange.{inRange}
 use Rattle.plain.specs.Lanes.{isEmpty, oldest, noPlace}
@@ -57,15 +56,15 @@ module _ (st : State) (s q : ℕ) (h : Units) where
   -- the test at place i is broken, and none before it
   pub request-refused : (i : ℕ) → BrokenAt i (requestTests st s q h) → ltb 0 (numberAt i (requestTests st s q h)) ≡ true → request st s q h ≡ refused st (numberAt i (requestTests st s q h))
   unfolding request requestRefusal
-  request-refused i b n = answered-refused st noUnits noUnits (requested st s q h) i (requestTests st s q h) b n
+  request-refused i b n = answered-refused st nothing (requested st s q h) i (requestTests st s q h) b n
 
   module _ (r : Requests st s q h) where
     pub request-kept : Kept (take 5 (requestTests st s q h))
     request-kept = (range-kept (r .range), (lt-leb (st .n) s (r .station), (lt-leb (length (st .table)) q (r .quorum), (range-kept (r .units), (rw (r .idle), tt)))))
 
-    pub request-done : requestPasses st s q h ≡ false → request st s q h ≡ done noUnits noUnits (requested st s q h)
+    pub request-done : requestPasses st s q h ≡ false → request st s q h ≡ done nothing (requested st s q h)
     unfolding request requestRefusal
-    request-done room = answered-done st noUnits noUnits (requested st s q h) (requestTests st s q h) (kept-both 5 (requestTests st s q h) request-kept (room, tt))
+    request-done room = answered-done st nothing (requested st s q h) (requestTests st s q h) (kept-both 5 (requestTests st s q h) request-kept (room, tt))
 
 -- ---- Up and Down: the same tests, each with its own for the room
 
@@ -82,14 +81,14 @@ module _ (st : State) (s j : ℕ) (lane : List Message) (full : Message → Bool
       let (m, rest, taken, room) = first-message lane full c d in
       (m, rest, record { range = not-false (inRange st) a; station = leb-false (st .n) s x; arbiter = leb-false (st .n) j y; taken = taken }, room)
 
-  module _ (entered left : Units) (next : State) where
+  module _ (x : Returned) (next : State) where
     -- what Up or Down answers
     abbrev pub delivery : Answer
-    delivery = answered st (deliveryRefusal st s j lane full) entered left next
+    delivery = answered st (deliveryRefusal st s j lane full) x next
 
     pub delivery-refused : (i : ℕ) → BrokenAt i (deliveryTests st s j lane full) → ltb 0 (numberAt i (deliveryTests st s j lane full)) ≡ true → delivery ≡ refused st (numberAt i (deliveryTests st s j lane full))
     unfolding deliveryRefusal
-    delivery-refused i b n = answered-refused st entered left next i (deliveryTests st s j lane full) b n
+    delivery-refused i b n = answered-refused st x next i (deliveryTests st s j lane full) b n
 
     module _ {m : Message} {rest : List Message} (d : Delivers st s j lane m rest) where
       delivery-kept : Kept (take 3 (deliveryTests st s j lane full))
@@ -98,38 +97,38 @@ module _ (st : State) (s j : ℕ) (lane : List Message) (full : Message → Bool
       pub delivery-full : full m ≡ true → delivery ≡ refused st noPlace
       delivery-full f = delivery-refused 3 (delivery-kept, rw (d .taken) f) refl
 
-      pub delivery-done : full m ≡ false → delivery ≡ done entered left next
+      pub delivery-done : full m ≡ false → delivery ≡ done x next
       unfolding deliveryRefusal
-      delivery-done room = answered-done st entered left next (deliveryTests st s j lane full) (kept-both 3 (deliveryTests st s j lane full) delivery-kept (rw (d .taken) room, tt))
+      delivery-done room = answered-done st x next (deliveryTests st s j lane full) (kept-both 3 (deliveryTests st s j lane full) delivery-kept (rw (d .taken) room, tt))
 
 -- what each makes of the message that it has taken
 module _ (st : State) (s j : ℕ) where
   pub up-refused : (i : ℕ) → BrokenAt i (upTests st s j) → ltb 0 (numberAt i (upTests st s j)) ≡ true → up st s j ≡ refused st (numberAt i (upTests st s j))
   unfolding up
-  up-refused i b n = delivery-refused st s j (st .up s j) (upPasses st s j) noUnits noUnits (delivered st s j (st .up s j)) i b n
+  up-refused i b n = delivery-refused st s j (st .up s j) (upPasses st s j) nothing (delivered st s j (st .up s j)) i b n
 
   pub down-refused : (i : ℕ) → BrokenAt i (downTests st s j) → ltb 0 (numberAt i (downTests st s j)) ≡ true → down st s j ≡ refused st (numberAt i (downTests st s j))
   unfolding down
-  down-refused i b n = delivery-refused st s j (st .down s j) (downPassesOf st s j) (entering st s j (st .down s j)) noUnits (received st s j (st .down s j)) i b n
+  down-refused i b n = delivery-refused st s j (st .down s j) (downPassesOf st s j) (returning st s j (st .down s j)) (received st s j (st .down s j)) i b n
 
   module _ {m : Message} {rest : List Message} where
     pub up-full : Delivers st s j (st .up s j) m rest → upPasses st s j m ≡ true → up st s j ≡ refused st noPlace
     unfolding up
-    up-full d f = delivery-full st s j (st .up s j) (upPasses st s j) noUnits noUnits (delivered st s j (st .up s j)) d f
+    up-full d f = delivery-full st s j (st .up s j) (upPasses st s j) nothing (delivered st s j (st .up s j)) d f
 
-    pub up-done : Delivers st s j (st .up s j) m rest → upPasses st s j m ≡ false → up st s j ≡ done noUnits noUnits (deliveredOf st s j m rest)
+    pub up-done : Delivers st s j (st .up s j) m rest → upPasses st s j m ≡ false → up st s j ≡ done nothing (deliveredOf st s j m rest)
     unfolding up delivered
-    up-done d room = delivery-done st s j (st .up s j) (upPasses st s j) noUnits noUnits (delivered st s j (st .up s j)) d room ∙ rw (d .taken)
+    up-done d room = delivery-done st s j (st .up s j) (upPasses st s j) nothing (delivered st s j (st .up s j)) d room ∙ rw (d .taken)
 
     pub down-full : Delivers st s j (st .down s j) m rest → downPassesOf st s j m ≡ true → down st s j ≡ refused st noPlace
     unfolding down
-    down-full d f = delivery-full st s j (st .down s j) (downPassesOf st s j) (entering st s j (st .down s j)) noUnits (received st s j (st .down s j)) d f
+    down-full d f = delivery-full st s j (st .down s j) (downPassesOf st s j) (returning st s j (st .down s j)) (received st s j (st .down s j)) d f
 
     pub down-done : Delivers st s j (st .down s j) m rest → downPassesOf st s j m ≡ false
-        → down st s j ≡ done (enters (takenAt st s j m)) noUnits (receivedAs st s j rest (takenAt st s j m))
-    unfolding down received entering
+        → down st s j ≡ done (returned (takenAt st s j m)) (receivedAs st s j rest (takenAt st s j m))
+    unfolding down received returning
     down-done d room =
-        delivery-done st s j (st .down s j) (downPassesOf st s j) (entering st s j (st .down s j)) noUnits (received st s j (st .down s j)) d room ∙ rw (d .taken)
+        delivery-done st s j (st .down s j) (downPassesOf st s j) (returning st s j (st .down s j)) (received st s j (st .down s j)) d room ∙ rw (d .taken)
 
 -- ---- Release
 
@@ -149,7 +148,7 @@ module _ (st : State) (s : ℕ) where
 
   pub release-refused : (i : ℕ) → BrokenAt i (releaseTests st s) → ltb 0 (numberAt i (releaseTests st s)) ≡ true → release st s ≡ refused st (numberAt i (releaseTests st s))
   unfolding release releaseRefusal
-  release-refused i b n = answered-refused st noUnits (held (st .phase s)) (released st s (st .phase s)) i (releaseTests st s) b n
+  release-refused i b n = answered-refused st (leftOnly (held (st .phase s))) (released st s (st .phase s)) i (releaseTests st s) b n
 
   module _ {q : ℕ} {h : Units} (r : Releases st s q h) where
     release-kept : Kept (take 3 (releaseTests st s))
@@ -158,10 +157,10 @@ module _ (st : State) (s : ℕ) where
     pub release-full : somePasses st s q ≡ true → release st s ≡ refused st noPlace
     release-full full = release-refused 3 (release-kept, rw (r .holding) full) refl
 
-    pub release-done : somePasses st s q ≡ false → release st s ≡ done noUnits h (givenBack st s q)
+    pub release-done : somePasses st s q ≡ false → release st s ≡ done (leftOnly h) (givenBack st s q)
     unfolding release releaseRefusal released
     release-done room =
-        answered-done st noUnits (held (st .phase s)) (released st s (st .phase s)) (releaseTests st s) (kept-both 3 (releaseTests st s) release-kept (rw (r .holding) room, tt))
+        answered-done st (leftOnly (held (st .phase s))) (released st s (st .phase s)) (releaseTests st s) (kept-both 3 (releaseTests st s) release-kept (rw (r .holding) room, tt))
         ∙ rw (r .holding)
 
 -- ---- Withdraw
@@ -183,7 +182,7 @@ module _ (st : State) (s : ℕ) where
 
   pub withdraw-refused : (i : ℕ) → BrokenAt i (withdrawTests st s) → ltb 0 (numberAt i (withdrawTests st s)) ≡ true → withdraw st s ≡ refused st (numberAt i (withdrawTests st s))
   unfolding withdraw withdrawRefusal
-  withdraw-refused i b n = answered-refused st noUnits noUnits (withdrawn st s (st .phase s)) i (withdrawTests st s) b n
+  withdraw-refused i b n = answered-refused st nothing (withdrawn st s (st .phase s)) i (withdrawTests st s) b n
 
   module _ {q : ℕ} {h : Units} {m : ℕ} (w : Withdraws st s q h m) where
     withdraw-kept : Kept (take 3 (withdrawTests st s))
@@ -192,8 +191,8 @@ module _ (st : State) (s : ℕ) where
     pub withdraw-full : leavingPasses st s q m ≡ true → withdraw st s ≡ refused st noPlace
     withdraw-full full = withdraw-refused 3 (withdraw-kept, rw (w .collecting) full) refl
 
-    pub withdraw-done : leavingPasses st s q m ≡ false → withdraw st s ≡ done noUnits noUnits (givenUp st s q m)
+    pub withdraw-done : leavingPasses st s q m ≡ false → withdraw st s ≡ done nothing (givenUp st s q m)
     unfolding withdraw withdrawRefusal withdrawn
     withdraw-done room =
-        answered-done st noUnits noUnits (withdrawn st s (st .phase s)) (withdrawTests st s) (kept-both 3 (withdrawTests st s) withdraw-kept (rw (w .collecting) room, tt))
+        answered-done st nothing (withdrawn st s (st .phase s)) (withdrawTests st s) (kept-both 3 (withdrawTests st s) withdraw-kept (rw (w .collecting) room, tt))
         ∙ rw (w .collecting)

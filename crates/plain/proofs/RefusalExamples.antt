@@ -12,7 +12,7 @@ use Rattle.units.specs.Units.{requestIn, grantIn, fits, askedWith, unitsOf, sto
 use Rattle.plain.specs.Answer.{Answer, answered}
 use Rattle.plain.specs.Arbiter.{arrived, serve, unitsIn}
 use Rattle.plain.specs.Delivery.{deliveryRefusal}
-use Rattle.plain.specs.Down.{down, onward, taken, receivedAs, received, entering}
+use Rattle.plain.specs.Down.{down, onward, taken, receivedAs, received, returning}
 use Rattle.plain.specs.InRange.{goesUp, goesDown, phaseIn, entryIn, arbiterIn, inRange}
 use Rattle.plain.specs.Lanes.{keeps}
 use Rattle.plain.specs.Release.{releasing, releaseRefusal, givenBack, released, release}
@@ -69,5 +69,5 @@ pub in-order :
     ∷ (19 ∷ 8 ∷ 8 ∷ 13 ∷ 13 ∷ [])
     ∷ (19 ∷ 8 ∷ 12 ∷ 12 ∷ 14 ∷ [])
     ∷ [])
-unfolding brokenLimit member lowestAmong lowestFrom at total fresh answered arrived fits serve unitsIn onward taken receivedAs received entering down goesUp goesDown keeps phaseIn entryIn arbiterIn inRange releasing releaseRefusal givenBack released release requestRefusal requested request replying granting deliveryRefusal deliveredOf delivered up unitsOf stockOf requestIn grantIn askedWith
+unfolding brokenLimit member lowestAmong lowestFrom at total fresh answered arrived fits serve unitsIn onward taken receivedAs received returning down goesUp goesDown keeps phaseIn entryIn arbiterIn inRange releasing releaseRefusal givenBack released release requestRefusal requested request replying granting deliveryRefusal deliveredOf delivered up unitsOf stockOf requestIn grantIn askedWith
 in-order = refl

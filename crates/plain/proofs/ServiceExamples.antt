@@ -13,7 +13,7 @@ use Rattle.units.specs.Units.{noUnits, requestIn, grantIn, fits, askedWith, uni
 use Rattle.plain.specs.Answer.{answered}
 use Rattle.plain.specs.Arbiter.{arrived, serve, unitsIn}
 use Rattle.plain.specs.Delivery.{deliveryRefusal}
-use Rattle.plain.specs.Down.{onward, taken, receivedAs, received, entering, down}
+use Rattle.plain.specs.Down.{onward, taken, receivedAs, received, returning, down}
 use Rattle.plain.specs.InRange.{goesUp, goesDown, phaseIn, entryIn, arbiterIn, inRange}
 use Rattle.plain.specs.Lanes.{keeps}
 use Rattle.plain.specs.Release.{releasing, releaseRefusal, givenBack, released, release}
@@ -54,7 +54,7 @@ pub strictly-from-the-first :
     ∷ Call.Down 2 0
     ∷ []))
     ≡ done ∷ done ∷ done ∷ done ∷ done ∷ done ∷ refuses 13 ∷ refuses 13 ∷ enters 2 ∷ leaves 2 ∷ done ∷ enters 2 ∷ enters 1 ∷ []
-unfolding brokenLimit member lowestAmong lowestFrom at total fresh answered arrived fits serve unitsIn onward taken receivedAs received entering down goesUp goesDown keeps phaseIn entryIn arbiterIn inRange releasing releaseRefusal givenBack released release requestRefusal requested request call run replying granting deliveryRefusal deliveredOf delivered up unitsOf stockOf requestIn grantIn askedWith
+unfolding brokenLimit member lowestAmong lowestFrom at total fresh answered arrived fits serve unitsIn onward taken receivedAs received returning down goesUp goesDown keeps phaseIn entryIn arbiterIn inRange releasing releaseRefusal givenBack released release requestRefusal requested request call run replying granting deliveryRefusal deliveredOf delivered up unitsOf stockOf requestIn grantIn askedWith
 strictly-from-the-first = refl
 
 -- Of two that wait for the only unit the older is granted first.
@@ -73,7 +73,7 @@ pub oldest-first :
     ∷ Call.Down 2 0
     ∷ []))
     ≡ done ∷ done ∷ done ∷ done ∷ done ∷ done ∷ enters 1 ∷ leaves 1 ∷ done ∷ refuses 13 ∷ enters 1 ∷ []
-unfolding brokenLimit member lowestAmong lowestFrom at total fresh answered arrived fits serve unitsIn onward taken receivedAs received entering down goesUp goesDown keeps phaseIn entryIn arbiterIn inRange releasing releaseRefusal givenBack released release requestRefusal requested request call run replying granting deliveryRefusal deliveredOf delivered up unitsOf stockOf requestIn grantIn askedWith
+unfolding brokenLimit member lowestAmong lowestFrom at total fresh answered arrived fits serve unitsIn onward taken receivedAs received returning down goesUp goesDown keeps phaseIn entryIn arbiterIn inRange releasing releaseRefusal givenBack released release requestRefusal requested request call run replying granting deliveryRefusal deliveredOf delivered up unitsOf stockOf requestIn grantIn askedWith
 oldest-first = refl
 
 -- Up on states made by hand, one station, one arbiter

@@ -12,7 +12,7 @@ use Rattle.units.specs.Units.{noUnits, requestIn, grantIn, fits, askedWith, uni
 use Rattle.plain.specs.Answer.{answered}
 use Rattle.plain.specs.Arbiter.{arrived, serve, unitsIn}
 use Rattle.plain.specs.Delivery.{deliveryRefusal}
-use Rattle.plain.specs.Down.{onward, taken, receivedAs, received, entering, down}
+use Rattle.plain.specs.Down.{onward, taken, receivedAs, received, returning, down}
 use Rattle.plain.specs.InRange.{goesUp, goesDown, phaseIn, entryIn, arbiterIn, inRange}
 use Rattle.plain.specs.Lanes.{keeps}
 use Rattle.plain.specs.Release.{releasing, releaseRefusal, givenBack, released, release}
@@ -68,7 +68,7 @@ pub grants-taken :
     ∷ record { answer = done; phase = Idle; granted = noUnits; line = []; up = []; down = Grant ∷ [] }
     ∷ record { answer = refuses 14; phase = Collecting 0 (unitsOf 1) 0; granted = noUnits; line = []; up = Release ∷ (Release ∷ (Release ∷ (Release ∷ []))); down = [] }
     ∷ [])
-unfolding brokenLimit member lowestAmong lowestFrom at total fresh answered arrived fits serve unitsIn onward taken receivedAs received entering down goesUp goesDown keeps phaseIn entryIn arbiterIn inRange releasing releaseRefusal givenBack released release requestRefusal requested request replying granting deliveryRefusal deliveredOf delivered up unitsOf stockOf requestIn grantIn askedWith
+unfolding brokenLimit member lowestAmong lowestFrom at total fresh answered arrived fits serve unitsIn onward taken receivedAs received returning down goesUp goesDown keeps phaseIn entryIn arbiterIn inRange releasing releaseRefusal givenBack released release requestRefusal requested request replying granting deliveryRefusal deliveredOf delivered up unitsOf stockOf requestIn grantIn askedWith
 grants-taken = refl
 
 -- station 1 holds by the quorum {0, 2} and gives back
@@ -95,5 +95,5 @@ pub gives-back :
     ∷ record { answer = refuses 14; phase = Holding 0 (unitsOf 1); granted = noUnits; line = []; up = []; down = [] }
     ∷ record { answer = leaves 1; phase = Idle; granted = noUnits; line = []; up = Release ∷ []; down = [] }
     ∷ [])
-unfolding brokenLimit member lowestAmong lowestFrom at total fresh answered arrived fits serve unitsIn onward taken receivedAs received entering down goesUp goesDown keeps phaseIn entryIn arbiterIn inRange releasing releaseRefusal givenBack released release requestRefusal requested request replying granting deliveryRefusal deliveredOf delivered up unitsOf stockOf requestIn grantIn askedWith
+unfolding brokenLimit member lowestAmong lowestFrom at total fresh answered arrived fits serve unitsIn onward taken receivedAs received returning down goesUp goesDown keeps phaseIn entryIn arbiterIn inRange releasing releaseRefusal givenBack released release requestRefusal requested request replying granting deliveryRefusal deliveredOf delivered up unitsOf stockOf requestIn grantIn askedWith
 gives-back = refl

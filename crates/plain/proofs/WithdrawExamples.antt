@@ -14,7 +14,7 @@ use Rattle.units.specs.Units.{noUnits, requestIn, grantIn, fits, amount, askedW
 use Rattle.plain.specs.Answer.{answered}
 use Rattle.plain.specs.Arbiter.{without, arrived, serve, unitsIn}
 use Rattle.plain.specs.Delivery.{deliveryRefusal}
-use Rattle.plain.specs.Down.{onward, taken, left, receivedAs, received, entering, down}
+use Rattle.plain.specs.Down.{onward, taken, left, receivedAs, received, returning, down}
 use Rattle.plain.specs.InRange.{goesUp, goesDown, phaseIn, entryIn, arbiterIn, inRange}
 use Rattle.plain.specs.Lanes.{keeps}
 use Rattle.plain.specs.Release.{releasing, releaseRefusal, givenBack, released, release}
@@ -50,7 +50,7 @@ pub withdrawn-in-line :
     -- GONE makes the station idle
     ∷ record { answer = done; phase = Idle; granted = noUnits; line = []; up = []; down = [] }
     ∷ []
-unfolding brokenLimit member lowestAmong lowestFrom at total fresh answered arrived without fits serve unitsIn onward taken left receivedAs received entering down goesUp goesDown keeps phaseIn entryIn arbiterIn inRange releasing releaseRefusal givenBack released release requestRefusal requested request withdrawing withdrawRefusal givenUp withdrawn withdraw call run after replying granting deliveryRefusal deliveredOf delivered up unitsOf stockOf requestIn grantIn askedWith
+unfolding brokenLimit member lowestAmong lowestFrom at total fresh answered arrived without fits serve unitsIn onward taken left receivedAs received returning down goesUp goesDown keeps phaseIn entryIn arbiterIn inRange releasing releaseRefusal givenBack released release requestRefusal requested request withdrawing withdrawRefusal givenUp withdrawn withdraw call run after replying granting deliveryRefusal deliveredOf delivered up unitsOf stockOf requestIn grantIn askedWith
 withdrawn-in-line = refl
 
 -- station 1 withdraws while GRANT is under way to it
@@ -63,7 +63,7 @@ pub withdrawn-when-granted :
     ∷ record { answer = done; phase = Withdrawing; granted = noUnits; line = []; up = []; down = Gone ∷ [] }
     ∷ record { answer = done; phase = Idle; granted = noUnits; line = []; up = []; down = [] }
     ∷ []
-unfolding brokenLimit member lowestAmong lowestFrom at total fresh answered arrived without fits serve unitsIn onward taken left receivedAs received entering down goesUp goesDown keeps phaseIn entryIn arbiterIn inRange releasing releaseRefusal givenBack released release requestRefusal requested request withdrawing withdrawRefusal givenUp withdrawn withdraw call run after replying granting deliveryRefusal deliveredOf delivered up unitsOf stockOf requestIn grantIn askedWith
+unfolding brokenLimit member lowestAmong lowestFrom at total fresh answered arrived without fits serve unitsIn onward taken left receivedAs received returning down goesUp goesDown keeps phaseIn entryIn arbiterIn inRange releasing releaseRefusal givenBack released release requestRefusal requested request withdrawing withdrawRefusal givenUp withdrawn withdraw call run after replying granting deliveryRefusal deliveredOf delivered up unitsOf stockOf requestIn grantIn askedWith
 withdrawn-when-granted = refl
 
 -- the same, but WITHDRAW arrives before GRANT is taken: GONE stands behind GRANT
@@ -73,7 +73,7 @@ pub gone-behind-grant :
     ∷ record { answer = done; phase = Withdrawing; granted = noUnits; line = []; up = []; down = Gone ∷ [] }
     ∷ record { answer = done; phase = Idle; granted = noUnits; line = []; up = []; down = [] }
     ∷ []
-unfolding brokenLimit member lowestAmong lowestFrom at total fresh answered arrived without fits serve unitsIn onward taken left receivedAs received entering down goesUp goesDown keeps phaseIn entryIn arbiterIn inRange releasing releaseRefusal givenBack released release requestRefusal requested request withdrawing withdrawRefusal givenUp withdrawn withdraw call run after replying granting deliveryRefusal deliveredOf delivered up unitsOf stockOf requestIn grantIn askedWith
+unfolding brokenLimit member lowestAmong lowestFrom at total fresh answered arrived without fits serve unitsIn onward taken left receivedAs received returning down goesUp goesDown keeps phaseIn entryIn arbiterIn inRange releasing releaseRefusal givenBack released release requestRefusal requested request withdrawing withdrawRefusal givenUp withdrawn withdraw call run after replying granting deliveryRefusal deliveredOf delivered up unitsOf stockOf requestIn grantIn askedWith
 gone-behind-grant = refl
 
 -- station 1 held, gave back and asked again, and withdraws before RELEASE has arrived
@@ -91,7 +91,7 @@ pub withdrawn-behind-release :
     ∷ record { answer = done; phase = Withdrawing; granted = noUnits; line = []; up = []; down = Gone ∷ [] }
     ∷ record { answer = done; phase = Idle; granted = noUnits; line = []; up = []; down = [] }
     ∷ []
-unfolding brokenLimit member lowestAmong lowestFrom at total fresh answered arrived without fits serve unitsIn onward taken left receivedAs received entering down goesUp goesDown keeps phaseIn entryIn arbiterIn inRange releasing releaseRefusal givenBack released release requestRefusal requested request withdrawing withdrawRefusal givenUp withdrawn withdraw call run after replying granting deliveryRefusal deliveredOf delivered up unitsOf stockOf requestIn grantIn askedWith
+unfolding brokenLimit member lowestAmong lowestFrom at total fresh answered arrived without fits serve unitsIn onward taken left receivedAs received returning down goesUp goesDown keeps phaseIn entryIn arbiterIn inRange releasing releaseRefusal givenBack released release requestRefusal requested request withdrawing withdrawRefusal givenUp withdrawn withdraw call run after replying granting deliveryRefusal deliveredOf delivered up unitsOf stockOf requestIn grantIn askedWith
 withdrawn-behind-release = refl
 
 -- station 1 asks by all three, has the GRANT of 0 and withdraws from 1
@@ -111,7 +111,7 @@ pub withdrawn-at-second :
     ∷ record { answer = done; phase = Withdrawing; granted = noUnits; line = []; up = Request (unitsOf 1) ∷ (Withdraw ∷ []); down = [] }
     ∷ record { answer = done; phase = Withdrawing; granted = noUnits; line = []; up = []; down = [] }
     ∷ [])
-unfolding brokenLimit member lowestAmong lowestFrom at total fresh answered arrived without fits serve unitsIn onward taken left receivedAs received entering down goesUp goesDown keeps phaseIn entryIn arbiterIn inRange releasing releaseRefusal givenBack released release requestRefusal requested request withdrawing withdrawRefusal givenUp withdrawn withdraw call run after replying granting deliveryRefusal deliveredOf delivered up unitsOf stockOf requestIn grantIn askedWith
+unfolding brokenLimit member lowestAmong lowestFrom at total fresh answered arrived without fits serve unitsIn onward taken left receivedAs received returning down goesUp goesDown keeps phaseIn entryIn arbiterIn inRange releasing releaseRefusal givenBack released release requestRefusal requested request withdrawing withdrawRefusal givenUp withdrawn withdraw call run after replying granting deliveryRefusal deliveredOf delivered up unitsOf stockOf requestIn grantIn askedWith
 withdrawn-at-second = refl
 
 -- station 0 is granted the unit, station 1 waits for it, and station 0 withdraws: as WITHDRAW arrives the line is served
@@ -122,7 +122,7 @@ pub next-is-served :
     ∷ record { answer = done; phase = Collecting 0 (unitsOf 1) 0; granted = unitsOf 1; line = []; up = []; down = Grant ∷ [] }
     ∷ record { answer = done; phase = Collecting 0 (unitsOf 1) 2; granted = unitsOf 1; line = []; up = []; down = [] }
     ∷ []
-unfolding brokenLimit member lowestAmong lowestFrom at total fresh answered arrived without fits serve unitsIn onward taken left receivedAs received entering down goesUp goesDown keeps phaseIn entryIn arbiterIn inRange releasing releaseRefusal givenBack released release requestRefusal requested request withdrawing withdrawRefusal givenUp withdrawn withdraw call run after replying granting deliveryRefusal deliveredOf delivered up unitsOf stockOf requestIn grantIn askedWith
+unfolding brokenLimit member lowestAmong lowestFrom at total fresh answered arrived without fits serve unitsIn onward taken left receivedAs received returning down goesUp goesDown keeps phaseIn entryIn arbiterIn inRange releasing releaseRefusal givenBack released release requestRefusal requested request withdrawing withdrawRefusal givenUp withdrawn withdraw call run after replying granting deliveryRefusal deliveredOf delivered up unitsOf stockOf requestIn grantIn askedWith
 next-is-served = refl
 
 -- station 1 asks and withdraws; by GONE, behind the GRANT that it drops, it is idle; it asks again, holds and gives back
@@ -143,7 +143,7 @@ twice =
     ∷ []
 
 pub asks-twice : map said (run start twice) ≡ done ∷ done ∷ done ∷ done ∷ done ∷ done ∷ done ∷ done ∷ done ∷ done ∷ enters 1 ∷ leaves 1 ∷ []
-unfolding brokenLimit member lowestAmong lowestFrom at total fresh answered arrived without fits serve unitsIn onward taken left receivedAs received entering down goesUp goesDown keeps phaseIn entryIn arbiterIn inRange releasing releaseRefusal givenBack released release requestRefusal requested request withdrawing withdrawRefusal givenUp withdrawn withdraw call run after replying granting deliveryRefusal deliveredOf delivered up unitsOf stockOf requestIn grantIn askedWith
+unfolding brokenLimit member lowestAmong lowestFrom at total fresh answered arrived without fits serve unitsIn onward taken left receivedAs received returning down goesUp goesDown keeps phaseIn entryIn arbiterIn inRange releasing releaseRefusal givenBack released release requestRefusal requested request withdrawing withdrawRefusal givenUp withdrawn withdraw call run after replying granting deliveryRefusal deliveredOf delivered up unitsOf stockOf requestIn grantIn askedWith
 asks-twice = refl
 
 pub counted :
@@ -159,7 +159,7 @@ pub counted :
     ∷ [])
     ∷ [])
     ((0 ∷ 0 ∷ 1 ∷ 1 ∷ 1 ∷ 0 ∷ 0 ∷ 0 ∷ 0 ∷ 0 ∷ 0 ∷ 0 ∷ []) ∷ replicate 12 0 ∷ (1 ∷ 1 ∷ 0 ∷ 0 ∷ []) ∷ [])
-unfolding brokenLimit member lowestAmong lowestFrom at total fresh answered arrived without fits serve unitsIn onward taken left receivedAs received entering down goesUp goesDown keeps phaseIn entryIn arbiterIn inRange releasing releaseRefusal givenBack released release requestRefusal requested request withdrawing withdrawRefusal givenUp withdrawn withdraw call run after replying granting deliveryRefusal deliveredOf delivered up unitsOf stockOf requestIn grantIn askedWith enteredAt amount numbered
+unfolding brokenLimit member lowestAmong lowestFrom at total fresh answered arrived without fits serve unitsIn onward taken left receivedAs received returning down goesUp goesDown keeps phaseIn entryIn arbiterIn inRange releasing releaseRefusal givenBack released release requestRefusal requested request withdrawing withdrawRefusal givenUp withdrawn withdraw call run after replying granting deliveryRefusal deliveredOf delivered up unitsOf stockOf requestIn grantIn askedWith enteredAt amount numbered
 counted = refl
 
 -- behind its first Request station 1 asks again
@@ -173,5 +173,5 @@ pub asked-anew :
     ∷ asksAgain 1 (after start (take 1 twice)) (Call.Request 1 0 (unitsOf 1) ∷ Call.Request 0 0 (unitsOf 1) ∷ [])
     ∷ [])
     (true ∷ false ∷ false ∷ [])
-unfolding brokenLimit member lowestAmong lowestFrom at total fresh answered arrived without fits serve unitsIn onward taken left receivedAs received entering down goesUp goesDown keeps phaseIn entryIn arbiterIn inRange releasing releaseRefusal givenBack released release requestRefusal requested request withdrawing withdrawRefusal givenUp withdrawn withdraw call run after replying granting deliveryRefusal deliveredOf delivered up unitsOf stockOf requestIn grantIn askedWith asksAgain
+unfolding brokenLimit member lowestAmong lowestFrom at total fresh answered arrived without fits serve unitsIn onward taken left receivedAs received returning down goesUp goesDown keeps phaseIn entryIn arbiterIn inRange releasing releaseRefusal givenBack released release requestRefusal requested request withdrawing withdrawRefusal givenUp withdrawn withdraw call run after replying granting deliveryRefusal deliveredOf delivered up unitsOf stockOf requestIn grantIn askedWith asksAgain
 asked-anew = refl

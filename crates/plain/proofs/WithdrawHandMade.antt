@@ -13,7 +13,7 @@ use Rattle.units.specs.Units.{noUnits, requestIn, grantIn, fits, askedWith, uni
 use Rattle.plain.specs.Answer.{answered}
 use Rattle.plain.specs.Arbiter.{without, arrived, serve, unitsIn}
 use Rattle.plain.specs.Delivery.{deliveryRefusal}
-use Rattle.plain.specs.Down.{onward, taken, left, receivedAs, received, entering, down}
+use Rattle.plain.specs.Down.{onward, taken, left, receivedAs, received, returning, down}
 use Rattle.plain.specs.InRange.{goesUp, goesDown, phaseIn, entryIn, arbiterIn, inRange}
 use Rattle.plain.specs.Lanes.{keeps}
 use Rattle.plain.specs.Release.{releasing, releaseRefusal, givenBack, released, release}
@@ -59,7 +59,7 @@ pub gone-taken :
     ∷ record { answer = done; phase = Idle; granted = noUnits; line = []; up = []; down = Grant ∷ [] }
     ∷ record { answer = done; phase = Withdrawing; granted = noUnits; line = []; up = []; down = [] }
     ∷ [])
-unfolding brokenLimit member lowestAmong lowestFrom at total fresh answered arrived without fits serve unitsIn onward taken left receivedAs received entering down goesUp goesDown keeps phaseIn entryIn arbiterIn inRange releasing releaseRefusal givenBack released release requestRefusal requested request withdrawing withdrawRefusal givenUp withdrawn withdraw replying granting deliveryRefusal deliveredOf delivered up unitsOf stockOf requestIn grantIn askedWith
+unfolding brokenLimit member lowestAmong lowestFrom at total fresh answered arrived without fits serve unitsIn onward taken left receivedAs received returning down goesUp goesDown keeps phaseIn entryIn arbiterIn inRange releasing releaseRefusal givenBack released release requestRefusal requested request withdrawing withdrawRefusal givenUp withdrawn withdraw replying granting deliveryRefusal deliveredOf delivered up unitsOf stockOf requestIn grantIn askedWith
 gone-taken = refl
 
 -- three stations, three units, all granted to station 2; WITHDRAW of station 1 arrives at arbiter 0, which has this line
@@ -91,7 +91,7 @@ pub withdraw-arrives :
     ∷ record { answer = refuses 14; phase = Withdrawing; granted = unitsOf 2; line = entry 1 1 ∷ []; up = Withdraw ∷ []; down = Grant ∷ (Grant ∷ []) }
     ∷ record { answer = refuses 14; phase = Withdrawing; granted = unitsOf 2; line = entry 0 2 ∷ []; up = Withdraw ∷ []; down = [] }
     ∷ [])
-unfolding brokenLimit member lowestAmong lowestFrom at total fresh answered arrived without fits serve unitsIn onward taken left receivedAs received entering down goesUp goesDown keeps phaseIn entryIn arbiterIn inRange releasing releaseRefusal givenBack released release requestRefusal requested request withdrawing withdrawRefusal givenUp withdrawn withdraw replying granting deliveryRefusal deliveredOf delivered up unitsOf stockOf requestIn grantIn askedWith
+unfolding brokenLimit member lowestAmong lowestFrom at total fresh answered arrived without fits serve unitsIn onward taken left receivedAs received returning down goesUp goesDown keeps phaseIn entryIn arbiterIn inRange releasing releaseRefusal givenBack released release requestRefusal requested request withdrawing withdrawRefusal givenUp withdrawn withdraw replying granting deliveryRefusal deliveredOf delivered up unitsOf stockOf requestIn grantIn askedWith
 withdraw-arrives = refl
 
 -- ---- what is refused, and in which order
@@ -125,7 +125,7 @@ pub lanes-full :
     ∷ record { answer = done; phase = Withdrawing; granted = noUnits; line = []; up = Withdraw ∷ []; down = [] }
     ∷ record { answer = done; phase = Withdrawing; granted = noUnits; line = []; up = Release ∷ []; down = [] }
     ∷ [])
-unfolding brokenLimit member lowestAmong lowestFrom at total fresh answered arrived without fits serve unitsIn onward taken left receivedAs received entering down goesUp goesDown keeps phaseIn entryIn arbiterIn inRange releasing releaseRefusal givenBack released release requestRefusal requested request withdrawing withdrawRefusal givenUp withdrawn withdraw replying granting deliveryRefusal deliveredOf delivered up unitsOf stockOf requestIn grantIn askedWith
+unfolding brokenLimit member lowestAmong lowestFrom at total fresh answered arrived without fits serve unitsIn onward taken left receivedAs received returning down goesUp goesDown keeps phaseIn entryIn arbiterIn inRange releasing releaseRefusal givenBack released release requestRefusal requested request withdrawing withdrawRefusal givenUp withdrawn withdraw replying granting deliveryRefusal deliveredOf delivered up unitsOf stockOf requestIn grantIn askedWith
 lanes-full = refl
 
 -- with full lanes, station 1 is in this phase
@@ -147,7 +147,7 @@ pub refused-in-order :
     ∷ release (stuck Withdrawing) 1 .refusal
     ∷ [])
     (19 ∷ 8 ∷ 20 ∷ 20 ∷ 20 ∷ 20 ∷ 14 ∷ 11 ∷ 12 ∷ [])
-unfolding brokenLimit member lowestAmong lowestFrom at total fresh answered arrived without fits serve unitsIn onward taken left receivedAs received entering down goesUp goesDown keeps phaseIn entryIn arbiterIn inRange releasing releaseRefusal givenBack released release requestRefusal requested request withdrawing withdrawRefusal givenUp withdrawn withdraw replying granting deliveryRefusal deliveredOf delivered up unitsOf stockOf requestIn grantIn askedWith
+unfolding brokenLimit member lowestAmong lowestFrom at total fresh answered arrived without fits serve unitsIn onward taken left receivedAs received returning down goesUp goesDown keeps phaseIn entryIn arbiterIn inRange releasing releaseRefusal givenBack released release requestRefusal requested request withdrawing withdrawRefusal givenUp withdrawn withdraw replying granting deliveryRefusal deliveredOf delivered up unitsOf stockOf requestIn grantIn askedWith
 refused-in-order = refl
 
 -- ---- in range or not
@@ -165,5 +165,5 @@ pub withdrawals-in-range :
     ∷ inRange (withDown 1 2 (Grant ∷ (Grant ∷ (Gone ∷ []))) start)
     ∷ [])
     (true ∷ true ∷ true ∷ false ∷ false ∷ false ∷ false ∷ [])
-unfolding brokenLimit member lowestAmong lowestFrom at total fresh answered arrived without fits serve unitsIn onward taken left receivedAs received entering down goesUp goesDown keeps phaseIn entryIn arbiterIn inRange releasing releaseRefusal givenBack released release requestRefusal requested request withdrawing withdrawRefusal givenUp withdrawn withdraw replying granting deliveryRefusal deliveredOf delivered up unitsOf stockOf requestIn grantIn askedWith
+unfolding brokenLimit member lowestAmong lowestFrom at total fresh answered arrived without fits serve unitsIn onward taken left receivedAs received returning down goesUp goesDown keeps phaseIn entryIn arbiterIn inRange releasing releaseRefusal givenBack released release requestRefusal requested request withdrawing withdrawRefusal givenUp withdrawn withdraw replying granting deliveryRefusal deliveredOf delivered up unitsOf stockOf requestIn grantIn askedWith
 withdrawals-in-range = refl

@@ -16,8 +16,8 @@ use Rattle.quorum.specs.Family.{quorum}
 use Rattle.units.specs.Units.{noUnits, Amount, amount}
 use Rattle.units.specs.declared.Units.{Units}
 use Rattle.units.proofs.Amounts.{amount-none}
-use Rattle.plain.specs.Answer.{answered}
-use Rattle.plain.specs.Down.{Taken, onward, taken, takenAt, enters, downRefusal, phaseThen, receivedAs, received, entering, down}
+use Rattle.plain.specs.Answer.{Returned, nothing, leftOnly, answered}
+use Rattle.plain.specs.Down.{Taken, onward, taken, takenAt, enters, downRefusal, phaseThen, receivedAs, received, returning, down}
 use Rattle.plain.specs.Release.{releaseRefusal, givenBack, released, held, release}
 use Rattle.plain.specs.Request.{requestRefusal, lowest, requested, request}
 use Rattle.plain.specs.Run.{Call, call, after}
@@ -88,20 +88,20 @@ module _ (s : ℕ) where
     withdraw-stays t (Holding q h) = none
     withdraw-stays t Withdrawing = none
 
-    answer-stays : (r : ℕ) (e l : Units) (next : State) → collects next ≡ false → collects (answered st r e l next .state) ≡ false
-    answer-stays r e l next n = answered-as st e l next (λ x. collects (x .state) ≡ false) r (λ z. n) none
+    answer-stays : (r : ℕ) (x : Returned) (next : State) → collects next ≡ false → collects (answered st r x next .state) ≡ false
+    answer-stays r x next n = answered-as st x next (λ a. collects (a .state) ≡ false) r (λ z. n) none
 
     stays : (c : Call) → asks s st c ≡ false → collects (call st c .state) ≡ false
     unfolding call request requested up down release withdraw
     stays (Call.Request t q h) e =
-        answered-as st noUnits noUnits (requested st t q h) (λ x. (eqb t s && eqb (x .refusal) 0) ≡ false → collects (x .state) ≡ false) (requestRefusal st t q h)
+        answered-as st nothing (requested st t q h) (λ x. (eqb t s && eqb (x .refusal) 0) ≡ false → collects (x .state) ≡ false) (requestRefusal st t q h)
         (λ z y. rw (at-other (st .phase) t (Collecting q h (lowest st q)) s (λ (i : s ≡ t). true≢false (rw (eq-eqb t s (sym i)) at y))) none)
         (λ y. none)
         e
-    stays (Call.Up t j) e = answer-stays (upRefusal st t j) noUnits noUnits (delivered st t j (st .up t j)) (up-stays t j (st .up t j))
-    stays (Call.Down t j) e = answer-stays (downRefusal st t j) (entering st t j (st .down t j)) noUnits (received st t j (st .down t j)) (down-stays t j (st .down t j))
-    stays (Call.Release t) e = answer-stays (releaseRefusal st t) noUnits (held (st .phase t)) (released st t (st .phase t)) (release-stays t (st .phase t))
-    stays (Call.Withdraw t) e = answer-stays (withdrawRefusal st t) noUnits noUnits (withdrawn st t (st .phase t)) (withdraw-stays t (st .phase t))
+    stays (Call.Up t j) e = answer-stays (upRefusal st t j) nothing (delivered st t j (st .up t j)) (up-stays t j (st .up t j))
+    stays (Call.Down t j) e = answer-stays (downRefusal st t j) (returning st t j (st .down t j)) (received st t j (st .down t j)) (down-stays t j (st .down t j))
+    stays (Call.Release t) e = answer-stays (releaseRefusal st t) (leftOnly (held (st .phase t))) (released st t (st .phase t)) (release-stays t (st .phase t))
+    stays (Call.Withdraw t) e = answer-stays (withdrawRefusal st t) nothing (withdrawn st t (st .phase t)) (withdraw-stays t (st .phase t))
 
   module _ (a : Amount) (st : State) where
     -- of what station t enters
@@ -116,8 +116,8 @@ module _ (s : ℕ) where
     Entered t u next = (part t u ≡ 0) ⊎ ((collects st ≡ true) × (collects next ≡ false))
 
     -- only Down enters anything
-    answer-none : (t r : ℕ) (l : Units) (next : State) → part t (answered st r noUnits l next .entered) ≡ 0
-    answer-none t r l next = answered-as st noUnits l next (λ x. part t (x .entered) ≡ 0) r (λ z. part-none t) (part-none t)
+    answer-none : (t r : ℕ) (l : Units) (next : State) → part t (answered st r (leftOnly l) next .entered) ≡ 0
+    answer-none t r l next = answered-as st (leftOnly l) next (λ x. part t (x .entered) ≡ 0) r (λ z. part-none t) (part-none t)
 
     request-none : (q : ℕ) (h : Units) → entersAt a s st (Call.Request s q h) ≡ 0
     unfolding call request
@@ -151,8 +151,8 @@ module _ (s : ℕ) where
         own : Made (takenAt st s j m)
         own = made-as Made (st .table) j (st .phase s) drops (grant (st .phase s) refl) (left-as Made (st .phase s) drops (λ w. inl (part-none s))) m
 
-    down-enters : (t j : ℕ) (lane : List Message) → Entered t (entering st t j lane) (received st t j lane)
-    unfolding entering received
+    down-enters : (t j : ℕ) (lane : List Message) → Entered t (returning st t j lane .entered) (received st t j lane)
+    unfolding returning received
     down-enters t j [] = inl (part-none t)
     down-enters t j (m ∷ rest) = message-enters t j rest m
 
@@ -161,7 +161,7 @@ module _ (s : ℕ) where
     call-enters (Call.Request t q h) = inl (answer-none t (requestRefusal st t q h) noUnits (requested st t q h))
     call-enters (Call.Up t j) = inl (answer-none t (upRefusal st t j) noUnits (delivered st t j (st .up t j)))
     call-enters (Call.Down t j) =
-        answered-as st (entering st t j (st .down t j)) noUnits (received st t j (st .down t j)) (λ x. Entered t (x .entered) (x .state)) (downRefusal st t j)
+        answered-as st (returning st t j (st .down t j)) (received st t j (st .down t j)) (λ x. Entered t (x .entered) (x .state)) (downRefusal st t j)
         (λ z. down-enters t j (st .down t j))
         (inl (part-none t))
     call-enters (Call.Release t) = inl (answer-none t (releaseRefusal st t) (held (st .phase t)) (released st t (st .phase t)))
@@ -197,7 +197,7 @@ module _ (a : Amount) (s : ℕ) where
   withdraw-stops : (st : State) → call st (Call.Withdraw s) .refusal ≡ 0 → (collects s st ≡ true) × (collects s (call st (Call.Withdraw s) .state) ≡ false)
   unfolding call withdraw withdrawn givenUp
   withdraw-stops st e =
-      let passed = answered-as st noUnits noUnits (withdrawn st s (st .phase s)) (λ x. x .refusal ≡ 0 → withdrawRefusal st s ≡ 0) (withdrawRefusal st s) (λ z y. z) (λ z. z) e in
+      let passed = answered-as st nothing (withdrawn st s (st .phase s)) (λ x. x .refusal ≡ 0 → withdrawRefusal st s ≡ 0) (withdrawRefusal st s) (λ z y. z) (λ z. z) e in
       let (q, h, m, w, room) = withdraws st s passed in
       (rw (w .collecting), rw (withdraw-done st s w room, at-same (st .phase) s Withdrawing))
 

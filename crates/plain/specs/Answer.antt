@@ -12,14 +12,37 @@ pub record Answer : Type 0 where
   pub left : Units
   pub state : State
 
+-- what a call returns besides its refusal and the record
+pub record Returned : Type 0 where
+  pub entered : Units
+  pub left : Units
+
+-- "else 0"
+abbrev pub nothing : Returned
+nothing = record { entered = noUnits; left = noUnits }
+
+abbrev pub enteredOnly : Units → Returned
+enteredOnly h = record { entered = h; left = noUnits }
+
+abbrev pub leftOnly : Units → Returned
+leftOnly h = record { entered = noUnits; left = h }
+
+-- so much is returned, and the state after the call is `next`
+abbrev pub answer : ℕ → Returned → State → Answer
+answer refusal x next = record { refusal = refusal; entered = x .entered; left = x .left; state = next }
+
+-- an answer, but with another state
+abbrev pub withState : State → Answer → Answer
+withState st a = record { refusal = a .refusal; entered = a .entered; left = a .left; state = st }
+
 -- "A refused call enters and leaves 0 and returns the record unchanged."
 abbrev pub refused : State → ℕ → Answer
-refused st r = record { refusal = r; entered = noUnits; left = noUnits; state = st }
+refused st r = answer r nothing st
 
--- a call that is done enters and leaves so many units and leads to the state `next`
-abbrev pub done : Units → Units → State → Answer
-done entered left next = record { refusal = 0; entered = entered; left = left; state = next }
+-- a call that is done returns x and leads to the state `next`
+abbrev pub done : Returned → State → Answer
+done x next = answer 0 x next
 
 -- the answer to a call on st that is refused by r, or else (r = 0) is done
-unfoldable pub answered : State → ℕ → Units → Units → State → Answer
-answered st r entered left next = doneOr (done entered left next) (refused st) r
+unfoldable pub answered : State → ℕ → Returned → State → Answer
+answered st r x next = doneOr (done x next) (refused st) r

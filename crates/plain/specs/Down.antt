@@ -9,7 +9,7 @@ use Rattle.stations.specs.Sets.{places, lowestFrom}
 use Rattle.quorum.specs.Family.{quorum}
 use Rattle.units.specs.Units.{noUnits}
 use Rattle.units.specs.declared.Units.{Units}
-use Rattle.plain.specs.Answer.{Answer, answered}
+use Rattle.plain.specs.Answer.{Answer, Returned, nothing, enteredOnly, answered}
 use Rattle.plain.specs.Asking.{askPasses, asking}
 use Rattle.plain.specs.Delivery.{deliveryTests, deliveryRefusal}
 use Rattle.plain.specs.State.{State}
@@ -64,6 +64,10 @@ enters (Taken.holds q h) = h
 enters Taken.idles = noUnits
 enters Taken.drops = noUnits
 
+-- and so much Down returns
+abbrev pub returned : Taken → Returned
+returned t = enteredOnly (enters t)
+
 -- "a lane .. would pass its limit": only REQUEST takes a place
 abbrev pub downPasses : State → ℕ → Taken → Bool
 downPasses st s (Taken.asks q h m) = askPasses st s h m
@@ -104,11 +108,11 @@ unfoldable pub received : State → ℕ → ℕ → List Message → State
 received st s j [] = st
 received st s j (m ∷ rest) = receivedAs st s j rest (takenAt st s j m)
 
--- the units that its oldest message enters
-unfoldable pub entering : State → ℕ → ℕ → List Message → Units
-entering st s j [] = noUnits
-entering st s j (m ∷ rest) = enters (takenAt st s j m)
+-- what Down returns of the lane's oldest message
+unfoldable pub returning : State → ℕ → ℕ → List Message → Returned
+returning st s j [] = nothing
+returning st s j (m ∷ rest) = returned (takenAt st s j m)
 
 -- Down(s, j)
 unfoldable pub down : State → ℕ → ℕ → Answer
-down st s j = answered st (downRefusal st s j) (entering st s j (st .down s j)) noUnits (received st s j (st .down s j))
+down st s j = answered st (downRefusal st s j) (returning st s j (st .down s j)) (received st s j (st .down s j))

@@ -10,7 +10,7 @@ use Rattle.stations.specs.Member.{member}
 use Rattle.quorum.specs.Family.{quorum}
 use Rattle.units.specs.Units.{noUnits}
 use Rattle.units.specs.declared.Units.{Units}
-use Rattle.plain.specs.Answer.{Answer, answered}
+use Rattle.plain.specs.Answer.{Answer, leftOnly, answered}
 use Rattle.plain.specs.InRange.{inRange}
 use Rattle.plain.specs.Lanes.{upPlaces, noPlace, passes, sent}
 use Rattle.plain.specs.State.{State}
@@ -82,4 +82,4 @@ held Withdrawing = noUnits
 
 -- Release(s)
 unfoldable pub release : State → ℕ → Answer
-release st s = answered st (releaseRefusal st s) noUnits (held (st .phase s)) (released st s (st .phase s))
+release st s = answered st (releaseRefusal st s) (leftOnly (held (st .phase s))) (released st s (st .phase s))

@@ -7,9 +7,9 @@ use lib.ListN.{length}
 use Rattle.lists.specs.Broken.{Test, _when_, firstBroken}
 use Rattle.stations.specs.Sets.{lowestFrom}
 use Rattle.quorum.specs.Family.{quorum}
-use Rattle.units.specs.Units.{noUnits, requestIn}
+use Rattle.units.specs.Units.{requestIn}
 use Rattle.units.specs.declared.Units.{Units}
-use Rattle.plain.specs.Answer.{Answer, answered}
+use Rattle.plain.specs.Answer.{Answer, nothing, answered}
 use Rattle.plain.specs.Asking.{askPasses, asking}
 use Rattle.plain.specs.InRange.{inRange}
 use Rattle.plain.specs.Lanes.{noPlace}
@@ -53,4 +53,4 @@ requested st s q h = asking st s q h (lowest st q)
 
 -- Request(s, q, h)
 unfoldable pub request : State → ℕ → ℕ → Units → Answer
-request st s q h = answered st (requestRefusal st s q h) noUnits noUnits (requested st s q h)
+request st s q h = answered st (requestRefusal st s q h) nothing (requested st s q h)

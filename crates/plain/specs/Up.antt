@@ -6,8 +6,7 @@ use lib.Dec.{eqb}
 use Rattle.lists.specs.At.{at2}
 use Rattle.lists.specs.Broken.{Test}
 use Rattle.lists.specs.Search.{someBelow}
-use Rattle.units.specs.Units.{noUnits}
-use Rattle.plain.specs.Answer.{Answer, answered}
+use Rattle.plain.specs.Answer.{Answer, nothing, answered}
 use Rattle.plain.specs.Arbiter.{arrived, Served, served, grantsTo}
 use Rattle.plain.specs.Delivery.{deliveryTests, deliveryRefusal}
 use Rattle.plain.specs.Lanes.{downPlaces, linePlaces, passes, sent}
@@ -66,4 +65,4 @@ delivered st s j (m ∷ rest) = deliveredOf st s j m rest
 
 -- Up(s, j)
 unfoldable pub up : State → ℕ → ℕ → Answer
-up st s j = answered st (upRefusal st s j) noUnits noUnits (delivered st s j (st .up s j))
+up st s j = answered st (upRefusal st s j) nothing (delivered st s j (st .up s j))

@@ -8,8 +8,7 @@ use Rattle.lists.specs.At.{at}
 use Rattle.lists.specs.Broken.{Test, _when_, firstBroken}
 use Rattle.stations.specs.Sets.{everyone}
 use Rattle.quorum.specs.Family.{quorum}
-use Rattle.units.specs.Units.{noUnits}
-use Rattle.plain.specs.Answer.{Answer, answered}
+use Rattle.plain.specs.Answer.{Answer, nothing, answered}
 use Rattle.plain.specs.InRange.{inRange}
 use Rattle.plain.specs.Lanes.{upPlaces, noPlace, passes, sent}
 use Rattle.plain.specs.Release.{releasing, anyPasses}
@@ -72,4 +71,4 @@ withdrawn st s Withdrawing = st
 
 -- Withdraw(s): "a withdrawn request enters none"
 unfoldable pub withdraw : State → ℕ → Answer
-withdraw st s = answered st (withdrawRefusal st s) noUnits noUnits (withdrawn st s (st .phase s))
+withdraw st s = answered st (withdrawRefusal st s) nothing (withdrawn st s (st .phase s))

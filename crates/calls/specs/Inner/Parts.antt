@@ -8,9 +8,8 @@ use Rattle.lists.specs.At.{at, at2}
 use Rattle.lists.specs.Broken.{_when_, firstBroken}
 use Rattle.quorum.specs.Family.{quorum}
 use Rattle.quorum.specs.Limits.{mostStations}
-use Rattle.units.specs.Units.{noUnits}
 use Rattle.units.specs.declared.Units.{Units}
-use Rattle.plain.specs.Answer.{Answer, answered, refused, done}
+use Rattle.plain.specs.Answer.{Answer, nothing, leftOnly, answered, refused, done}
 use Rattle.plain.specs.Asking.{askPasses, asking}
 use Rattle.plain.specs.Down.{Taken, takenAt}
 use Rattle.plain.specs.InRange.{inRange}
@@ -46,11 +45,11 @@ isWithdrawal Gone = false
 
 -- what asking the member m answers, where only the room in its lane is left to be tested
 abbrev pub askAnswer : State → ℕ → ℕ → Units → ℕ → Answer
-askAnswer st s q h m = answered st (firstBroken (noPlace when askPasses st s h m ∷ [])) noUnits noUnits (asking st s q h m)
+askAnswer st s q h m = answered st (firstBroken (noPlace when askPasses st s h m ∷ [])) nothing (asking st s q h m)
 
 -- what a station answers that has these lanes up, is in this phase and leaves these units, or has no place in one of the lanes
 abbrev pub rowAnswer : State → ℕ → Bool → (ℕ → List Message) → Phase → Units → Answer
-rowAnswer st s full lanes p left = cond full (refused st noPlace) (done noUnits left (withPhase s p (withUps (at (st .up) s lanes) st)))
+rowAnswer st s full lanes p left = cond full (refused st noPlace) (done (leftOnly left) (withPhase s p (withUps (at (st .up) s lanes) st)))
 
 -- m is the oldest message in the lane of station s and arbiter j, and `rest` are the lanes without it
 pub record Took (n s j : ℕ) (lanes : ℕ → ℕ → List Message) (m : Message) (rest : ℕ → ℕ → List Message) : Type 0 where

@@ -3,8 +3,7 @@
 use mathlib.Core.Path.{ap, _∙_}
 use native.Mathlib.Omega.{arith}
 use borrow.Author.Needs.{needs}
-use Rattle.units.specs.Units.{noUnits}
-use Rattle.plain.specs.Answer.{done}
+use Rattle.plain.specs.Answer.{leftOnly, done}
 use Rattle.records.proofs.Good.{stations-of, rows-of-up}
 use Rattle.calls.proofs.GivingBack.{row-stored}
 use Rattle.calls.proofs.releases.send_row.Statement.{statement}
@@ -22,7 +21,7 @@ returns-2 c =
     let stations = stations-of (x .r) _ (st .good .0) in
     let rows = rows-of-up (x .r) _ (st .good .0) in (
       rw (e .if1 .left) (rw none at (c .done-with .ensures .0)
-          ∙ ap (done noUnits (x .left)) (row-stored (x .r) (x .s) (x .phase) (x .sent .row) (st .pre .1) (omega (arith, stations, st .pre)) (omega (arith, rows, st .pre)))),
+          ∙ ap (done (leftOnly (x .left))) (row-stored (x .r) (x .s) (x .phase) (x .sent .row) (st .pre .1) (omega (arith, stations, st .pre)) (omega (arith, rows, st .pre)))),
       λ z. absurd (omega (arith, c .done-with .ensures .1)),
     )
 
