@@ -19,7 +19,7 @@ use Rattle.plain.proofs.Bound.{bounded}
 use Rattle.plain.proofs.Exceeded.{exceeded}
 use Rattle.records.specs.View.{view}
 use Rattle.machine.specs.Opening.{opening}
-use Rattle.machine.specs.Performing.{Performance, callsOf, wordsOf, performance, performedOf}
+use Rattle.machine.specs.Performing.{Performance, answerWords, callsOf, wordsOf, performance, performedOf}
 use Rattle.machine.proofs.OpeningRecord.{opened-fresh}
 use Rattle.claim.specs.Claim.{EveryList, Opens, Performs, Exceeds}
 use Rattle.claim.proofs.Tracing.{trace-runs}
@@ -36,7 +36,7 @@ module _ (n : ℕ) (stock : Units) (table : List ℕ) where
   performs a r calls answers written performed κs learnt start done numbers are =
       let none = sym (ap (λ (p : Performance). p .refusal) (learnt .0)) ∙ done in
       let same : numbers ≡ wordsOf (run (fresh n stock table) (callsOf (calls .now))) =
-      are ∙ ap (take (3 * length (callsOf (calls .now)))) (learnt .1 .1) ∙ written-front (view r) (calls .now) (answers .now) none
+      are ∙ ap (take (answerWords * length (callsOf (calls .now)))) (learnt .1 .1) ∙ written-front (view r) (calls .now) (answers .now) none
       ∙ ap (λ (st : State). wordsOf (run st (callsOf (calls .now)))) start in
       (same, rw same (words-within stock (run (fresh n stock table) (callsOf (calls .now))) (bounded n stock table a (callsOf (calls .now)))))
 

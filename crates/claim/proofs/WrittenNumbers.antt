@@ -12,7 +12,7 @@ use Rattle.plain.specs.Answer.{Answer}
 use Rattle.plain.specs.Run.{run, entered, left, WithinStock}
 use Rattle.plain.specs.State.{State}
 use Rattle.plain.proofs.Runs.{run-length}
-use Rattle.machine.specs.Performing.{callsOf, wordsOf, listRefusal, answersIn}
+use Rattle.machine.specs.Performing.{answerWords, callsOf, wordsOf, listRefusal, answersIn}
 use Rattle.machine.proofs.AnswerWords.{words-length}
 use Rattle.claim.specs.Claim.{unitsEntered, unitsLeft, NumbersWithin}
 
@@ -33,8 +33,8 @@ words-within stock answers w =
 
 -- of a list that is not refused the numbers of its answers are the front of what was lent
 pub written-front : (st : State) (calls out : List ℕ) → listRefusal calls (length out) ≡ 0
-    → take (3 * length (callsOf calls)) (answersIn st calls out) ≡ wordsOf (run st (callsOf calls))
+    → take (answerWords * length (callsOf calls)) (answersIn st calls out) ≡ wordsOf (run st (callsOf calls))
 unfolding answersIn
 written-front st calls out none =
-    rw none (take-at (wordsOf (run st (callsOf calls))) (drop (3 * length (callsOf calls)) out) (3 * length (callsOf calls))
-    (words-length (run st (callsOf calls)) ∙ ap (λ (l : ℕ). 3 * l) (run-length st (callsOf calls))))
+    rw none (take-at (wordsOf (run st (callsOf calls))) (drop (answerWords * length (callsOf calls)) out) (answerWords * length (callsOf calls))
+    (words-length (run st (callsOf calls)) ∙ ap (λ (l : ℕ). answerWords * l) (run-length st (callsOf calls))))

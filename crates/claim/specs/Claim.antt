@@ -14,7 +14,7 @@ use Rattle.records.specs.View.{view}
 use Rattle.records.specs.declared.Record.{Record}
 use Rattle.calls.specs.Answers.{answerOf}
 use Rattle.calls.specs.declared.Answer.{Answer}
-use Rattle.machine.specs.Performing.{callsOf, wordsOf}
+use Rattle.machine.specs.Performing.{answerWords, callsOf, wordsOf}
 use Rattle.machine.specs.declared.Opened.{Opened}
 use Rattle.machine.specs.declared.Performed.{Performed}
 use Rattle.machine.proofs.open.Reads as open-reads
@@ -53,7 +53,7 @@ module _ (n : ℕ) (stock : Units) (table : List ℕ) where
   Performs = (r : Record) (calls answers written : RefT (List ℕ)) (performed : Performed) (κs : Lfts 2)
       → perform-reads.Learnt κs (r, (calls, (answers, tt))) performed (r, (calls, (written, tt)))
       → view r ≡ fresh n stock table → performed .refusal ≡ 0
-      → (numbers : List ℕ) → numbers ≡ take (3 * length (callsOf (calls .now))) (written .now)
+      → (numbers : List ℕ) → numbers ≡ take (answerWords * length (callsOf (calls .now))) (written .now)
       → (numbers ≡ wordsOf (run (fresh n stock table) (callsOf (calls .now)))) × NumbersWithin (numberOf stock) numbers
 
   -- (b) "opening, lent enough scratch, gives one": a call of `open` on the table; `left` is the scratch afterwards

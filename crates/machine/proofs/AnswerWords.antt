@@ -1,4 +1,4 @@
--- The numbers of a list of answers, three an answer.
+-- The numbers of a list of answers.
 -- Assumes nothing.
 use mathlib.Core.List.{List, [], _∷_}
 use mathlib.Core.Path.{_≡_, refl}
@@ -6,9 +6,9 @@ use Prim.Native.Nat.{_*_}
 use native.Mathlib.Omega.{arith}
 use lib.ListN.{length}
 use Rattle.plain.specs.Answer.{Answer}
-use Rattle.machine.specs.Performing.{wordsOf}
+use Rattle.machine.specs.Performing.{answerWords, wordsOf}
 
-pub words-length : (answers : List Answer) → length (wordsOf answers) ≡ 3 * length answers
+pub words-length : (answers : List Answer) → length (wordsOf answers) ≡ answerWords * length answers
 unfolding wordsOf
 words-length [] = refl
 words-length (a ∷ answers) = omega (arith, words-length answers)

@@ -18,13 +18,13 @@ use Rattle.units.specs.Units.{numberOf}
 use Rattle.plain.specs.Answer.{Answer}
 use Rattle.plain.specs.Run.{call, run, after}
 use Rattle.plain.specs.State.{State}
-use Rattle.machine.specs.Performing.{formed, wellFormed, callOf, callsOf, wordsOf}
+use Rattle.machine.specs.Performing.{answerWords, formed, wellFormed, callOf, callsOf, wordsOf}
 use Rattle.machine.proofs.PerformingCalls.{well-formed-next, calls-next, well-formed-end, calls-length}
 
 pub record Going (calls lent : List ℕ) (st₀ : State) (out : List ℕ) (st : State) (i o : ℕ) : Type 0 where
   pub within : i ≤ length calls
   pub form : wellFormed (drop i calls) ≡ true
-  pub pace : 4 * o ≡ 3 * i
+  pub pace : 4 * o ≡ answerWords * i
   pub written : List ℕ
   pub long : length written ≡ o
   pub stored : out ≡ sets lent 0 written
@@ -50,7 +50,7 @@ module _ (calls lent : List ℕ) (st₀ : State) where
         (λ (enough : ¬ (length calls - i < 4)). omega arith)
 
     -- and finds room for its answer
-    pub room : wellFormed calls ≡ true → 3 * length (callsOf calls) ≤ length lent → i < length calls → o + 3 ≤ length out
+    pub room : wellFormed calls ≡ true → answerWords * length (callsOf calls) ≤ length lent → i < length calls → o + answerWords ≤ length out
     room form enough h = omega (arith, whole h, going .pace, calls-length calls form, same-length)
 
     -- one call more
@@ -78,21 +78,21 @@ module _ (calls lent : List ℕ) (st₀ : State) where
           two : o + 2 ≡ suc (suc o)
           two = omega arith
 
-      pub going-more : (next : List ℕ) → next ≡ set (set (set out o (a .refusal)) (o + 1) (numberOf (a .entered))) (o + 2) (numberOf (a .left)) → Going calls lent st₀ next (a .state) (i + 4) (o + 3)
+      pub going-more : (next : List ℕ) → next ≡ set (set (set out o (a .refusal)) (o + 1) (numberOf (a .entered))) (o + 2) (numberOf (a .left)) → Going calls lent st₀ next (a .state) (i + 4) (o + answerWords)
       going-more next is =
           record {
             within = whole h;
             form = and-right (formed (getD calls i 0) (getD calls (i + 2) 0) (getD calls (i + 3) 0)) (wellFormed (drop (i + 4) calls)) (sym (well-formed-next calls i (whole h)) ∙ going .form);
             pace = omega (arith, going .pace);
             written = going .written ++ numbers;
-            long = length-append (going .written) numbers ∙ ap (λ (l : ℕ). l + 3) (going .long);
+            long = length-append (going .written) numbers ∙ ap (λ (l : ℕ). l + answerWords) (going .long);
             stored = is ∙ stored-next;
             words = words-next;
             state = state-next;
           }
 
     -- no call is left
-    module _ (form : wellFormed calls ≡ true) (enough : 3 * length (callsOf calls) ≤ length lent) (h : length calls ≤ i) where
+    module _ (form : wellFormed calls ≡ true) (enough : answerWords * length (callsOf calls) ≤ length lent) (h : length calls ≤ i) where
       none-left : drop i calls ≡ []
       none-left = drop-of-length-le calls {i = i} h
 
@@ -104,9 +104,9 @@ module _ (calls lent : List ℕ) (st₀ : State) where
       unfolding wordsOf run callsOf
       all-words = going .words ∙ rw none-left (append-nil (going .written))
 
-      pub all-stored : out ≡ wordsOf (run st₀ (callsOf calls)) ++ drop (3 * length (callsOf calls)) lent
+      pub all-stored : out ≡ wordsOf (run st₀ (callsOf calls)) ++ drop (answerWords * length (callsOf calls)) lent
       all-stored =
-          let e : length (going .written) ≡ 3 * length (callsOf calls) = omega (arith, going .pace, going .long, going .within, calls-length calls form) in
+          let e : length (going .written) ≡ answerWords * length (callsOf calls) = omega (arith, going .pace, going .long, going .within, calls-length calls form) in
           going .stored
           ∙ sets-front lent (going .written) (omega arith)
           ∙ rw (all-words, e)

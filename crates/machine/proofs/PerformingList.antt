@@ -10,7 +10,7 @@ use borrow.Author.Tests.{ne-eqb, lt-ltb, le-ltb}
 use Rattle.plain.specs.Run.{run, after}
 use Rattle.plain.specs.State.{State}
 use Rattle.records.specs.View.{view}
-use Rattle.machine.specs.Performing.{wellFormed, callsOf, wordsOf, listRefusal, performance, performedOf, answersIn}
+use Rattle.machine.specs.Performing.{answerWords, wellFormed, callsOf, wordsOf, listRefusal, performance, performedOf, answersIn}
 use Rattle.machine.specs.declared.Performed.{Performed}
 use Rattle.machine.proofs.PerformingCalls.{calls-length}
 
@@ -19,16 +19,16 @@ module _ (calls : List ℕ) (room : ℕ) where
   unfolding listRefusal
   refusal-15 e = rw e
 
-  pub refusal-16 : wellFormed calls ≡ true → room / 3 < length calls / 4 → listRefusal calls room ≡ 16
+  pub refusal-16 : wellFormed calls ≡ true → room / answerWords < length calls / 4 → listRefusal calls room ≡ 16
   unfolding listRefusal
-  refusal-16 e h = rw (e, lt-ltb room (3 * length (callsOf calls)) (omega (arith, calls-length calls e)))
+  refusal-16 e h = rw (e, lt-ltb room (answerWords * length (callsOf calls)) (omega (arith, calls-length calls e)))
 
-  pub enough : wellFormed calls ≡ true → length calls / 4 ≤ room / 3 → 3 * length (callsOf calls) ≤ room
+  pub enough : wellFormed calls ≡ true → length calls / 4 ≤ room / answerWords → answerWords * length (callsOf calls) ≤ room
   enough e h = omega (arith, calls-length calls e)
 
-  pub refusal-none : wellFormed calls ≡ true → length calls / 4 ≤ room / 3 → listRefusal calls room ≡ 0
+  pub refusal-none : wellFormed calls ≡ true → length calls / 4 ≤ room / answerWords → listRefusal calls room ≡ 0
   unfolding listRefusal
-  refusal-none e h = rw (e, le-ltb room (3 * length (callsOf calls)) (enough e h))
+  refusal-none e h = rw (e, le-ltb room (answerWords * length (callsOf calls)) (enough e h))
 
 -- a list that is refused changes nothing
 module _ (st : State) (calls lent : List ℕ) (p : Performed) (same : view (p .«record») ≡ st) where
@@ -38,7 +38,7 @@ module _ (st : State) (calls lent : List ℕ) (p : Performed) (same : view (p .�
 
 -- and one that is not
 module _ (st : State) (calls lent out : List ℕ) (p : Performed) (none : listRefusal calls (length lent) ≡ 0) where
-  pub done-list : p .refusal ≡ 0 → view (p .«record») ≡ after st (callsOf calls) → out ≡ wordsOf (run st (callsOf calls)) ++ drop (3 * length (callsOf calls)) lent
+  pub done-list : p .refusal ≡ 0 → view (p .«record») ≡ after st (callsOf calls) → out ≡ wordsOf (run st (callsOf calls)) ++ drop (answerWords * length (callsOf calls)) lent
       → (performedOf p ≡ performance st calls (length lent)) × (out ≡ answersIn st calls lent)
   unfolding performedOf performance answersIn
   done-list z s o = (rw (z, s, none), o ∙ rw none)

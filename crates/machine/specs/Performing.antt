@@ -32,12 +32,13 @@ doWithdraw = 4
 abbrev pub doWords : ℕ
 doWords = 5
 
--- a call is four numbers, `do`, `station`, `with` and `units`, and an answer three
+-- a call is four numbers, `do`, `station`, `with` and `units`
 abbrev pub callNumbers : ℕ
 callNumbers = 4
 
-abbrev pub answerNumbers : ℕ
-answerNumbers = 3
+-- and an answer three
+abbrev pub answerWords : ℕ
+answerWords = 3
 
 -- `do` is one of its words, `with` 0 in a release and in a withdraw, `units` 0 except in a request: "`with` is the quorum of a request, the
 -- arbiter of up and down, 0 in a release. `units` is 0 except in a request." and "The journal has `do=withdraw` with 0 and 0."
@@ -66,14 +67,14 @@ callsOf (what ∷ s ∷ []) = []
 callsOf (what ∷ s ∷ w ∷ []) = []
 callsOf (what ∷ s ∷ w ∷ h ∷ rest) = callOf what s w h ∷ callsOf rest
 
--- an answer is three numbers: refusal, units entered, units left
+-- the numbers of an answer: refusal, units entered, units left
 unfoldable pub wordsOf : List Answer → List ℕ
 wordsOf [] = []
 wordsOf (a ∷ answers) = a .refusal ∷ numberOf (a .entered) ∷ numberOf (a .left) ∷ wordsOf answers
 
 -- 15 where a call is "not of the form", 16 where the answers find no room ("15 before 16"); then no call is made
 abbrev pub listTests : List ℕ → ℕ → List Test
-listTests calls room = 15 when not (wellFormed calls) ∷ 16 when ltb room (answerNumbers * length (callsOf calls)) ∷ []
+listTests calls room = 15 when not (wellFormed calls) ∷ 16 when ltb room (answerWords * length (callsOf calls)) ∷ []
 
 unfoldable pub listRefusal : List ℕ → ℕ → ℕ
 listRefusal calls room = firstBroken (listTests calls room)
@@ -89,7 +90,7 @@ performance st calls room = record { refusal = listRefusal calls room; state = c
 -- the lent answers: those of the plain machine, one for one, and what lies beyond them
 unfoldable pub answersIn : State → List ℕ → List ℕ → List ℕ
 answersIn st calls out =
-    cond (eqb (listRefusal calls (length out)) 0) (wordsOf (run st (callsOf calls)) ++ drop (answerNumbers * length (callsOf calls)) out) out
+    cond (eqb (listRefusal calls (length out)) 0) (wordsOf (run st (callsOf calls)) ++ drop (answerWords * length (callsOf calls)) out) out
 
 -- what the code's answer says
 unfoldable pub performedOf : Performed → Performance

@@ -8,7 +8,7 @@ ghost use Rattle.plain.specs.Run.{call, run as runOf, after};
 ghost use Rattle.records.specs.View.{view};
 ghost use Rattle.calls.specs.Answers.{answerOf};
 ghost use Rattle.units.specs.Units.{numberOf};
-ghost use Rattle.machine.specs.Performing.{formed, wellFormed, callOf, callsOf, wordsOf};
+ghost use Rattle.machine.specs.Performing.{answerWords, formed, wellFormed, callOf, callsOf, wordsOf};
 use crate::ANSWER_NUMBERS;
 use crate::CALL_NUMBERS;
 use crate::DO_DOWN;
@@ -80,7 +80,7 @@ fn answer_at(r: Record, calls: &[u16], i: usize) -> Answer
 
 // The numbers of an answer, from place `at` on.
 fn write_answer(answers: &mut [u16], at: usize, refusal: u8, entered: Units, left: Units)
-    requires { ⌜ at + 3 ≤ length (now answers) ⌝ }
+    requires { ⌜ at + answerWords ≤ length (now answers) ⌝ }
     ensures { λ _. ⌜ now (answers .exit) ≡ set (set (set (now (answers .entry)) at refusal) (at + 1) (numberOf entered)) (at + 2) (numberOf left) ⌝ }
 {
     let entered = units::number_of(entered);
@@ -92,9 +92,9 @@ fn write_answer(answers: &mut [u16], at: usize, refusal: u8, entered: Units, lef
 
 // All calls of the list, each on the record that the one before returned, and their answers.
 pub(crate) fn run(r: Record, calls: &[u16], answers: &mut [u16]) -> Record
-    requires { ⌜ (wellFormed (now calls) ≡ true) × (3 * length (callsOf (now calls)) ≤ length (now answers)) ⌝ }
+    requires { ⌜ (wellFormed (now calls) ≡ true) × (answerWords * length (callsOf (now calls)) ≤ length (now answers)) ⌝ }
     ensures state { λ q. ⌜ view q ≡ after (view r) (callsOf (now (calls .entry))) ⌝ }
-    ensures answers { λ _. ⌜ now (answers .exit) ≡ wordsOf (runOf (view r) (callsOf (now (calls .entry)))) ++ drop (3 * length (callsOf (now (calls .entry)))) (now (answers .entry)) ⌝ }
+    ensures answers { λ _. ⌜ now (answers .exit) ≡ wordsOf (runOf (view r) (callsOf (now (calls .entry)))) ++ drop (answerWords * length (callsOf (now (calls .entry)))) (now (answers .entry)) ⌝ }
 {
     let mut record = r;
     let mut i: usize = 0;
