@@ -21,9 +21,10 @@ extern "C" {
 #define PAFLUZENO_MOST_UNITS 200
 #define PAFLUZENO_MOST_QUORUMS 64
 #define PAFLUZENO_SCRATCH_BYTES 4096
+#define PAFLUZENO_NO_MEMBER 16 /* what stands for a member where there is none */
 #define PAFLUZENO_PAGE_ROOM 196617 /* the bytes of a buffer that is long enough for every page of the journal */
 
-/* So many bytes of stack are enough for every call. Measured (stack.c), not proved: pafluzeno_page takes 63,776 bytes, every other call 1,040 or
+/* So many bytes of stack are enough for every call. Measured (stack.c), not proved: pafluzeno_page takes 64,896 bytes, every other call 1,040 or
  * less. The rest is for memcpy and memset, for the loader, which may run on the caller's stack when they are first used, and for a compiler that
  * lays the calls out otherwise. The program `journal`, which has its buffers on the stack, takes 332 KiB. */
 #define PAFLUZENO_STACK_BYTES 81920
@@ -88,6 +89,17 @@ struct pafluzeno_made pafluzeno_uniform(size_t n, size_t k, uint16_t *out, size_
 
 /* a^(k + 1) stations; for each the quorum of those that agree with it in at least one coordinate: refusals 2, 17, 16. */
 struct pafluzeno_made pafluzeno_cube(size_t a, size_t k, uint16_t *out, size_t out_len);
+
+/* A member of a quorum, and how many of its members lie above that one. */
+struct pafluzeno_next {
+    size_t member;
+    size_t above;
+};
+
+/* The next member of a quorum from station `from` on; where there is none, PAFLUZENO_NO_MEMBER, with 0 above it. A station asks the members from
+ * the lowest up: the next from 0 on, and after the GRANT of j the next from j + 1 on, until there is none and it holds. Of a quorum's m members
+ * m - 1 lie above the lowest, and one less above each that follows: the member that is asked is number m - above of m. */
+struct pafluzeno_next pafluzeno_next_member(uint16_t quorum, size_t from);
 
 /* A place in an arbiter's line. */
 struct pafluzeno_entry {

@@ -12,8 +12,8 @@
 enum { STACK = 1 << 20, PAINT = 165, MOST_TEXT = 65536, STATIONS = PAFLUZENO_MOST_STATIONS, QUORUMS = PAFLUZENO_MOST_QUORUMS };
 
 /* In an order in which each finds what it reads: records, then their readers; the page, then its sums. */
-enum call { NOTHING, CHECK, SINGLETON, UNIFORM, CUBE, TELL, WRITE_RECORD, READ_LINE, READ_RECORD, AFTER_RECORD, PAGE, TALLY, CALLS };
-static const char *const names[CALLS] = {"nothing",      "check",     "singleton",   "uniform",      "cube", "tell",
+enum call { NOTHING, CHECK, SINGLETON, UNIFORM, CUBE, NEXT_MEMBER, TELL, WRITE_RECORD, READ_LINE, READ_RECORD, AFTER_RECORD, PAGE, TALLY, CALLS };
+static const char *const names[CALLS] = {"nothing",      "check",     "singleton",   "uniform",      "cube", "next_member", "tell",
                                          "write_record", "read_line", "read_record", "after_record", "page", "tally"};
 
 /* All stations but the last wait; with a length of 12, all do. */
@@ -53,6 +53,9 @@ static bool made(enum call call)
         return pafluzeno_uniform(STATIONS, 11, out, QUORUMS).quorums == 1 && pafluzeno_uniform(8, 1, out, QUORUMS).quorums == 56;
     case CUBE:
         return pafluzeno_cube(3, 1, out, QUORUMS).quorums == 9 && pafluzeno_cube(2, 2, out, QUORUMS).quorums == 8;
+    case NEXT_MEMBER:
+        good = pafluzeno_next_member(4095, 0).above == 11;
+        return good && pafluzeno_next_member(4095, STATIONS).member == PAFLUZENO_NO_MEMBER;
     case TELL: /* a request that fills the line, a release to a full one, a withdrawal from it: all are granted that are left */
         good = pafluzeno_tell(&arbiter, (struct pafluzeno_arrival){200, 11, PAFLUZENO_REQUEST, 1}).granted == 4095;
         arbiter = waiting, arbiter.len = STATIONS;

@@ -29,8 +29,9 @@ struct station {
     enum phase phase;                 /* what it does itself */
     uint16_t quorum;
     uint8_t units;
-    int member; /* whom it asks now */
-    int jobs;   /* how many batches it has finished */
+    size_t members;              /* how many members its quorum has */
+    struct pafluzeno_next asked; /* whom it asks now, and how many are still to come */
+    int jobs;                    /* how many batches it has finished */
 };
 
 static struct station stations[STATIONS];
@@ -61,13 +62,20 @@ static void say(int from, int to, enum kind kind, uint8_t units)
     lane->places[lane->len++] = (struct message){kind, units};
 }
 
-/* The lowest member of the station's quorum from `from` on, or -1. */
-static int member_from(const struct station *s, int from)
+/* The station's screen: how far it is with its quorum. Shown of station 0, for its first batch. */
+static void show(int me, const char *does)
 {
-    for (int j = from; j < STATIONS; j++)
-        if (s->quorum >> j & 1)
-            return j;
-    return -1;
+    const struct station *s = &stations[me];
+    if (me == 0 && s->jobs == 0)
+        printf("station 0 %s %zu: %zu of %zu\n", does, s->asked.member, s->members - s->asked.above, s->members);
+}
+
+/* REQUEST to the next member. */
+static void ask(int me, struct pafluzeno_next next)
+{
+    stations[me].asked = next;
+    show(me, "asks");
+    say(me, (int)next.member, REQUEST, stations[me].units);
 }
 
 static void begin(int me)
@@ -76,8 +84,17 @@ static void begin(int me)
     s->phase = COLLECTING;
     s->quorum = table[chance((unsigned)quorums)];
     s->units = (uint8_t)(1 + chance(STOCK));
-    s->member = member_from(s, 0);
-    say(me, s->member, REQUEST, s->units);
+    struct pafluzeno_next lowest = pafluzeno_next_member(s->quorum, 0);
+    s->members = lowest.above + 1;
+    ask(me, lowest);
+}
+
+/* RELEASE to the members below that station. */
+static void release_below(int me, size_t end)
+{
+    uint16_t quorum = stations[me].quorum;
+    for (size_t j = pafluzeno_next_member(quorum, 0).member; j < end; j = pafluzeno_next_member(quorum, j + 1).member)
+        say(me, (int)j, RELEASE, 0);
 }
 
 static void finish(int me)
@@ -86,8 +103,7 @@ static void finish(int me)
     in_use -= s->units;
     s->phase = IDLE;
     s->jobs++;
-    for (int j = member_from(s, 0); j >= 0; j = member_from(s, j + 1))
-        say(me, j, RELEASE, 0);
+    release_below(me, PAFLUZENO_NO_MEMBER);
 }
 
 /* The batch is spoilt: RELEASE to the members that have granted, WITHDRAW to the one asked now. */
@@ -96,23 +112,23 @@ static void withdraw(int me)
     struct station *s = &stations[me];
     s->phase = WITHDRAWING;
     withdrawn++;
-    for (int j = member_from(s, 0); j >= 0 && j < s->member; j = member_from(s, j + 1))
-        say(me, j, RELEASE, 0);
-    say(me, s->member, WITHDRAW, 0);
+    show(me, "withdraws at");
+    release_below(me, s->asked.member);
+    say(me, (int)s->asked.member, WITHDRAW, 0);
 }
 
 /* GRANT from the member asked: on to the next, or all have granted. Any other GRANT is dropped. */
 static void granted(int me, int from)
 {
     struct station *s = &stations[me];
-    if (s->phase != COLLECTING || s->member != from)
+    if (s->phase != COLLECTING || s->asked.member != (size_t)from)
         return;
-    int next = member_from(s, from + 1);
-    if (next >= 0) {
-        s->member = next;
-        say(me, next, REQUEST, s->units);
+    struct pafluzeno_next next = pafluzeno_next_member(s->quorum, s->asked.member + 1);
+    if (next.member != PAFLUZENO_NO_MEMBER) {
+        ask(me, next);
         return;
     }
+    show(me, "holds after");
     s->phase = HOLDING;
     in_use += s->units;
     if (in_use > most_in_use)

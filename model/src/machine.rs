@@ -7,17 +7,29 @@ use crate::arbiter::Sent;
 use crate::table::{check, members};
 use record::{Message, Phase, Record, MOST_DOWN, MOST_UP};
 
-/// "Each call returns refusal, units entered (else 0), units left (else 0) and the record."
+/// "Each call returns refusal, units entered (else 0), units left (else 0) and the record." And: "Request and Down return
+/// it: after sending REQUEST, the number of members above the addressee; otherwise 0."
 #[derive(Clone, PartialEq, Eq, Debug)]
 pub struct Answer {
     pub refusal: usize,
     pub entered: usize,
     pub left: usize,
+    pub above: usize,
     pub record: Record,
 }
 
-/// Units entered and units left.
-type Moved = (usize, usize);
+impl Answer {
+    /// As the programs of examples print them.
+    pub fn numbers(&self) -> String {
+        let (refused, entered, left, above) = (self.refusal, self.entered, self.left, self.above);
+        format!("refused={refused} entered={entered} left={left} above={above}")
+    }
+}
+
+/// Units entered, units left, and members above the addressee of a REQUEST.
+type Moved = (usize, usize, usize);
+
+const NOTHING: Moved = (0, 0, 0);
 
 /// A call works on a copy, which is thrown away where it is refused: "A refused call enters and leaves 0 and returns the
 /// record unchanged."
@@ -29,16 +41,18 @@ fn answer(before: &Record, call: impl FnOnce(&mut Record) -> Result<Moved, usize
         Err(19)
     };
     match done {
-        Ok((entered, left)) => Answer {
+        Ok((entered, left, above)) => Answer {
             refusal: 0,
             entered,
             left,
+            above,
             record,
         },
         Err(refusal) => Answer {
             refusal,
             entered: 0,
             left: 0,
+            above: 0,
             record: before.clone(),
         },
     }
@@ -51,6 +65,11 @@ fn exists(r: &Record, number: usize) -> Result<(), usize> {
     } else {
         Err(8)
     }
+}
+
+/// How many members of the quorum have a higher number than this one.
+pub fn members_above(quorum: u16, member: usize) -> usize {
+    members(quorum).into_iter().filter(|&m| m > member).count()
 }
 
 fn send_up(r: &mut Record, s: usize, j: usize, message: Message) -> Result<(), usize> {
@@ -89,7 +108,7 @@ pub fn request(before: &Record, s: usize, quorum: usize, h: usize) -> Answer {
             member: lowest,
         };
         send_up(r, s, lowest, Message::Request(h))?;
-        Ok((0, 0))
+        Ok((0, 0, members_above(r.table[quorum], lowest)))
     })
 }
 
@@ -114,7 +133,7 @@ pub fn up(before: &Record, s: usize, j: usize) -> Answer {
         for station in r.arbiters[j].take(n, k, s, sent)? {
             send_down(r, station, j, Message::Grant)?;
         }
-        Ok((0, 0))
+        Ok(NOTHING)
     })
 }
 
@@ -130,7 +149,7 @@ pub fn down(before: &Record, s: usize, j: usize) -> Answer {
             if r.stations[s] == Phase::Withdrawing {
                 r.stations[s] = Phase::Idle;
             }
-            return Ok((0, 0));
+            return Ok(NOTHING);
         }
         match r.stations[s] {
             Phase::Collecting {
@@ -147,15 +166,15 @@ pub fn down(before: &Record, s: usize, j: usize) -> Answer {
                             member,
                         };
                         send_up(r, s, member, Message::Request(units))?;
-                        Ok((0, 0))
+                        Ok((0, 0, members_above(r.table[quorum], member)))
                     }
                     None => {
                         r.stations[s] = Phase::Holding { quorum, units };
-                        Ok((units, 0))
+                        Ok((units, 0, 0))
                     }
                 }
             }
-            _ => Ok((0, 0)),
+            _ => Ok(NOTHING),
         }
     })
 }
@@ -171,7 +190,7 @@ pub fn release(before: &Record, s: usize) -> Answer {
             send_up(r, s, j, Message::Release)?;
         }
         r.stations[s] = Phase::Idle;
-        Ok((0, units))
+        Ok((0, units, 0))
     })
 }
 
@@ -189,7 +208,7 @@ pub fn withdraw(before: &Record, s: usize) -> Answer {
         }
         send_up(r, s, member, Message::Withdraw)?;
         r.stations[s] = Phase::Withdrawing;
-        Ok((0, 0))
+        Ok(NOTHING)
     })
 }
 

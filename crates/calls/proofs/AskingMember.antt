@@ -3,7 +3,7 @@
 use mathlib.Core.Bool.{true, false}
 use mathlib.Core.List.{_∷_, []}
 use mathlib.Core.Logic.{⊎-elim}
-use mathlib.Core.Path.{_≡_, sym, ap, _∙_}
+use mathlib.Core.Path.{_≡_, sym, ap, ap₂, _∙_}
 use Prim.Native.Nat.{ℕ, _≤_, _<_}
 use native.Mathlib.Omega.{arith}
 use lib.ListN.{length, getD, take, drop, length-append}
@@ -11,13 +11,14 @@ use borrow.Author.Tests.{lt-ltb, le-ltb}
 use Rattle.lists.specs.At.{at2}
 use Rattle.lists.proofs.Broken.{first-later}
 use Rattle.lists.proofs.Tests.{known}
-use Rattle.stations.specs.Sets.{lowestFrom}
+use Rattle.stations.specs.Sets.{lowestFrom, membersAbove, nextFrom}
+use Rattle.stations.specs.declared.NextMember.{NextMember}
 use Rattle.units.specs.declared.Units.{Units}
-use Rattle.plain.specs.Answer.{Answer, nothing, refused, done, answered}
-use Rattle.plain.specs.Asking.{askPasses, asking}
+use Rattle.plain.specs.Answer.{Answer, aboveOnly, refused, done, answered}
+use Rattle.plain.specs.Asking.{toCome, askPasses, asking}
 use Rattle.plain.specs.Inner.Passed.{Requests}
 use Rattle.plain.specs.Lanes.{upPlaces, noPlace, passes, sent}
-use Rattle.plain.specs.Request.{lowest, requestTests, requestRefusal, requested, request}
+use Rattle.plain.specs.Request.{lowest, requestTests, requestRefusal, requested, requestReturns, request}
 use Rattle.plain.specs.State.{State}
 use Rattle.plain.specs.declared.Message.{Message}
 use Rattle.plain.specs.declared.Message.the-variants.{Request}
@@ -32,6 +33,7 @@ use Rattle.records.specs.declared.Record.{Record}
 use Rattle.records.proofs.Storing.{storePhase, storeUp, phase-stored}
 use Rattle.records.proofs.Viewing.{lane-length, quorum-at}
 use Rattle.calls.specs.Inner.Parts.{askAnswer}
+use Rattle.calls.proofs.GoingOnward.{next-member, next-above}
 use Rattle.calls.proofs.RecordInRange.{table-length}
 
 -- a lane with one message more, and its limit
@@ -43,17 +45,17 @@ lane-room limit l m h = le-ltb limit (length (sent (laneOf l) m)) (rw (length-ap
 
 -- ---- by the room in the lane
 
-module _ (st : State) (s q : ℕ) (h : Units) (m : ℕ) where
-  pub ask-full : askPasses st s h m ≡ true → askAnswer st s q h m ≡ refused st noPlace
+module _ (st : State) (s q : ℕ) (h : Units) (m above : ℕ) where
+  pub ask-full : askPasses st s h m ≡ true → askAnswer st s q h m above ≡ refused st noPlace
   unfolding answered
   ask-full f = rw f
 
-  pub ask-room : askPasses st s h m ≡ false → askAnswer st s q h m ≡ done nothing (asking st s q h m)
+  pub ask-room : askPasses st s h m ≡ false → askAnswer st s q h m above ≡ done (aboveOnly above) (asking st s q h m)
   unfolding answered
   ask-room f = rw f
 
   -- what is learnt of the room from the answer
-  module _ (a : Answer) (is : a ≡ askAnswer st s q h m) where
+  module _ (a : Answer) (is : a ≡ askAnswer st s q h m above) where
     pub was-full : (a .refusal ≡ 0 → ⊥) → askPasses st s h m ≡ true
     was-full some =
         ⊎-elim (λ t. t) (λ (f : askPasses st s h m ≡ false). absurd (some (ap (λ (x : Answer). x .refusal) (is ∙ ask-room f)))) (known (askPasses st s h m))
@@ -64,36 +66,45 @@ module _ (st : State) (s q : ℕ) (h : Units) (m : ℕ) where
 
 -- ---- on a record
 
-module _ (r : Record) (s q : ℕ) (h : Units) (m : ℕ) (l : Lane) (at-lane : lanesOf (r .n) (r .up) s m ≡ laneOf l) where
-  pub lane-asked : upPlaces ≤ l .len → askAnswer (view r) s q h m ≡ refused (view r) noPlace
+module _ (r : Record) (s q : ℕ) (h : Units) (m above : ℕ) (l : Lane) (at-lane : lanesOf (r .n) (r .up) s m ≡ laneOf l) where
+  pub lane-asked : upPlaces ≤ l .len → askAnswer (view r) s q h m above ≡ refused (view r) noPlace
   unfolding view
-  lane-asked f = ask-full (view r) s q h m (rw at-lane (lane-full upPlaces l (Request h) f))
+  lane-asked f = ask-full (view r) s q h m above (rw at-lane (lane-full upPlaces l (Request h) f))
 
   module _ (lanes : Lanes) (put : lanesOf (r .n) lanes ≡ at2 (lanesOf (r .n) (r .up)) s m (sent (laneOf l) (Request h))) (exists : s < r .n) (long : s < length (r .stations)) where
     states : asking (view r) s q h m ≡ view (storePhase s (Collecting q h m) (storeUp lanes r))
     unfolding view
     states = rw at-lane (sym (phase-stored (storeUp lanes r) s (Collecting q h m) exists long ∙ rw put))
 
-    pub asked-goes : l .len < upPlaces → askAnswer (view r) s q h m ≡ done nothing (view (storePhase s (Collecting q h m) (storeUp lanes r)))
+    pub asked-goes : l .len < upPlaces → askAnswer (view r) s q h m above ≡ done (aboveOnly above) (view (storePhase s (Collecting q h m) (storeUp lanes r)))
     unfolding view
-    asked-goes f = ask-room (view r) s q h m (rw at-lane (lane-room upPlaces l (Request h) f)) ∙ ap (done nothing) states
+    asked-goes f = ask-room (view r) s q h m above (rw at-lane (lane-room upPlaces l (Request h) f)) ∙ ap (done (aboveOnly above)) states
 
 -- ---- Request asks the lowest member
 
-pub request-asks : (st : State) (s q : ℕ) (h : Units) → Requests st s q h → request st s q h ≡ askAnswer st s q h (lowest st q)
+asks-lowest : (st : State) (s q : ℕ) (h : Units) → Requests st s q h → request st s q h ≡ askAnswer st s q h (lowest st q) (toCome st q (lowest st q))
 unfolding request requestRefusal requested
-request-asks st s q h r =
-    ap (λ (x : ℕ). answered st x nothing (requested st s q h)) (first-later (take 5 (requestTests st s q h)) (drop 5 (requestTests st s q h)) (request-kept st s q h r))
+asks-lowest st s q h r =
+    ap (λ (x : ℕ). answered st x (requestReturns st q) (requested st s q h)) (first-later (take 5 (requestTests st s q h)) (drop 5 (requestTests st s q h)) (request-kept st s q h r))
 
 module _ (r : Record) (s q : ℕ) (h : Units) (passed : Requests (view r) s q h) where
   exists : q < r .quorums
   exists = omega (arith, passed .quorum, table-length r)
 
   -- the lowest member, as the code finds it
-  pub lowest-is : lowest (view r) q ≡ lowestFrom (getD (r .table) q 0) 0
+  lowest-is : lowest (view r) q ≡ lowestFrom (getD (r .table) q 0) 0
   unfolding view
   lowest-is = ap (λ (set : ℕ). lowestFrom set 0) (quorum-at r q exists)
 
   pub lowest-station : lowestFrom (getD (r .table) q 0) 0 < r .n
   unfolding view
   lowest-station = rw lowest-is at (first-member (r .n) (r .stock) (tableOf r) (ranged (view r) (passed .range) .limits) q (passed .quorum) .station)
+
+  -- so Request answers what asking it does
+  pub request-asks : (next : NextMember) → next ≡ nextFrom (getD (r .table) q 0) 0 → request (view r) s q h ≡ askAnswer (view r) s q h (next .member) (next .above)
+  unfolding view
+  request-asks next found =
+      let set = getD (r .table) q 0 in
+      let member = sym (next-member set 0 next found) in
+      asks-lowest (view r) s q h passed
+      ∙ ap₂ (askAnswer (view r) s q h) (lowest-is ∙ member) (ap₂ membersAbove (quorum-at r q exists) (lowest-is ∙ member) ∙ sym (next-above set 0 next found))

@@ -2,15 +2,16 @@
 -- Assumes nothing.
 use mathlib.Core.Bool.{true, false}
 use mathlib.Core.List.{List}
-use mathlib.Core.Path.{_≡_, refl, sym, ap, _∙_}
+use mathlib.Core.Path.{_≡_, refl, sym, ap, ap₂, _∙_}
 use Prim.Native.Nat.{ℕ, _<_}
 use lib.ListN.{length, getD}
 use Rattle.lists.proofs.Changed.{at-kept}
 use Rattle.units.specs.declared.Units.{Units}
-use Rattle.plain.specs.Answer.{Answer, nothing, enteredOnly, withState, refused, done}
-use Rattle.plain.specs.Asking.{askPasses, asking}
+use Rattle.plain.specs.Answer.{Answer, nothing, enteredOnly, aboveOnly, withState, refused, done}
+use Rattle.plain.specs.Asking.{toCome, askPasses, asking}
 use Rattle.plain.specs.Down.{Taken, left, returned, downPasses, receivedAs, down}
 use Rattle.plain.specs.Lanes.{noPlace}
+use Rattle.plain.specs.State.{State}
 use Rattle.plain.specs.Updates.{withPhase, withDown}
 use Rattle.plain.specs.declared.Message.{Message}
 use Rattle.plain.specs.declared.Message.the-variants.{Gone}
@@ -41,21 +42,21 @@ module _ (r : Record) (s j : ℕ) (rest : Lanes) {t : Taken} (receives : Receive
   full-as : downPasses (view r) s t ≡ true → down (view r) s j ≡ refused (view r) noPlace
   full-as f = down-full (view r) s j (delivers r s j (receives .takes)) (rw (receives .made) f)
 
-  done-as : downPasses (view r) s t ≡ false → down (view r) s j ≡ done (returned t) (receivedAs (view r) s j lane t)
+  done-as : downPasses (view r) s t ≡ false → down (view r) s j ≡ done (returned (view r) t) (receivedAs (view r) s j lane t)
   done-as f = rw (receives .made) at (down-done (view r) s j (delivers r s j (receives .takes)) (rw (receives .made) f))
 
 -- it asks: what asking answers on the record without the message, a refusal hands back the whole
 module _ (r : Record) (s j : ℕ) (rest : Lanes) (q : ℕ) (h : Units) (m : ℕ) (receives : Receives r s j (lanesOf (r .n) rest) (Taken.asks q h m))
-    (a : Answer) (is : a ≡ askAnswer (view (storeDown rest r)) s q h m) where
+    (above : ℕ) (told : above ≡ toCome (view r) q m) (a : Answer) (is : a ≡ askAnswer (view (storeDown rest r)) s q h m above) where
   pub asks-full : (a .refusal ≡ 0 → ⊥) → down (view r) s j ≡ withState (view r) a
   unfolding view
   asks-full some =
-      let full = was-full (view (storeDown rest r)) s q h m a is some in
+      let full = was-full (view (storeDown rest r)) s q h m above a is some in
       full-as r s j rest receives full
-      ∙ sym (ap (withState (view r)) (is ∙ ask-full (view (storeDown rest r)) s q h m full))
+      ∙ sym (ap (withState (view r)) (is ∙ ask-full (view (storeDown rest r)) s q h m above full))
 
   room : a .refusal ≡ 0 → askPasses (view (storeDown rest r)) s h m ≡ false
-  room none = was-room (view (storeDown rest r)) s q h m a is none
+  room none = was-room (view (storeDown rest r)) s q h m above a is none
 
   states : receivedAs (view r) s j (receives .takes .took .lane) (Taken.asks q h m) ≡ asking (view (storeDown rest r)) s q h m
   unfolding receivedAs
@@ -64,8 +65,8 @@ module _ (r : Record) (s j : ℕ) (rest : Lanes) (q : ℕ) (h : Units) (m : ℕ)
   pub asks-done : a .refusal ≡ 0 → down (view r) s j ≡ a
   unfolding view
   asks-done none =
-      done-as r s j rest receives (room none) ∙ ap (done nothing) states
-      ∙ sym (is ∙ ask-room (view (storeDown rest r)) s q h m (room none))
+      done-as r s j rest receives (room none) ∙ ap₂ (λ (x : ℕ) (next : State). done (aboveOnly x) next) (sym told) states
+      ∙ sym (is ∙ ask-room (view (storeDown rest r)) s q h m above (room none))
 
 -- it holds, or goes on as after a GONE: it has a phase
 module _ (r : Record) (s j : ℕ) (rest : Lanes) {t : Taken} (receives : Receives r s j (lanesOf (r .n) rest) t) (long : s < length (r .stations)) where

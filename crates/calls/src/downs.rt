@@ -4,6 +4,7 @@ ghost use mathlib.Core.List.{List};
 ghost use mathlib.Core.Path.{_≡_};
 ghost use Prim.Native.Nat.{ℕ, _≤_, _<_, _^_};
 ghost use Rattle.lists.specs.Cut.{cut};
+ghost use Rattle.plain.specs.Asking.{toCome};
 ghost use Rattle.plain.specs.Down.{onward as onwardOf, taken, Taken, down};
 ghost use Rattle.plain.specs.declared.Message.the-variants.{Grant, Gone};
 ghost use Rattle.quorum.specs.Family.{quorum as quorumOf};
@@ -21,12 +22,13 @@ use records::Record;
 use records::Station;
 use units::Units;
 
-// Of a GRANT: it asks the next member of its quorum, it holds its units, or it drops the message.
+// Of a GRANT: it asks the next member of its quorum, with so many members above that one, it holds its units, or it drops the message.
 pub(crate) enum Taking {
     Asks {
         quorum: u8,
         units: Units,
         member: u8,
+        above: u8,
     },
     Holds {
         quorum: u8,
@@ -39,16 +41,17 @@ pub(crate) enum Taking {
 fn onward(set: u16, n: usize, j: usize, quorum: u8, units: Units) -> Taking
     requires { ⌜ (set < 2 ^ n) × (j < mostStations) ⌝ }
     ensures taking { λ r. ⌜ ((table : List ℕ) → quorumOf table quorum ≡ set → takenOf r ≡ onwardOf table quorum units j) ⌝ }
-    ensures within { λ r. ⌜ within n r ≡ true ⌝ }
+    ensures within { λ r. ⌜ ((table : List ℕ) → quorumOf table quorum ≡ set → within n table r ≡ true) ⌝ }
 {
     let next = stations::lowest_from(set, j + 1);
-    if stations::PLACES <= next {
+    if stations::PLACES <= next.member {
         return Taking::Holds { quorum, units };
     }
     Taking::Asks {
         quorum,
         units,
-        member: next as u8,
+        member: next.member as u8,
+        above: next.above as u8,
     }
 }
 
@@ -62,7 +65,7 @@ fn granted(
 ) -> Taking
     requires { ⌜ (j < mostStations) × (quorums ≤ mostQuorums) × Wishes n (cut 0 quorums table) p ⌝ }
     ensures taking { λ r. ⌜ takenOf r ≡ taken (cut 0 quorums table) j p ⌝ }
-    ensures within { λ r. ⌜ within n r ≡ true ⌝ }
+    ensures within { λ r. ⌜ within n (cut 0 quorums table) r ≡ true ⌝ }
 {
     match p {
         Phase::Idle => Taking::Drops,
@@ -86,14 +89,23 @@ fn granted(
 }
 
 // The station asks the next member. `rest` are the lanes down without the message.
-fn asks(r: Record, s: usize, j: usize, rest: Lanes, quorum: u8, units: Units, member: u8) -> Answer
-    requires { ⌜ Receives r s j (lanesOf (r .n) rest) (Taken.asks quorum units member) × (member < r .n) ⌝ }
+fn asks(
+    r: Record,
+    s: usize,
+    j: usize,
+    rest: Lanes,
+    quorum: u8,
+    units: Units,
+    member: u8,
+    above: u8,
+) -> Answer
+    requires { ⌜ Receives r s j (lanesOf (r .n) rest) (Taken.asks quorum units member) × (member < r .n) × (above ≡ toCome (view r) quorum member) ⌝ }
     ensures answer { λ a. ⌜ answerOf a ≡ down (view r) s j ⌝ }
     ensures refused { λ a. ⌜ (0 < a .refusal → a .«record» ≡ r) ⌝ }
 {
     let mut next = r;
     next.down = rest;
-    let mut a = asking::ask(next, s, quorum, units, member);
+    let mut a = asking::ask(next, s, quorum, units, member, above);
     if a.refusal != refusals::NO_REFUSAL {
         a.record = r; // with the message
     }
@@ -141,7 +153,8 @@ fn told_grant(r: Record, s: usize, j: usize, rest: Lanes) -> Answer
             quorum,
             units,
             member,
-        } => asks(r, s, j, rest, quorum, units, member),
+            above,
+        } => asks(r, s, j, rest, quorum, units, member, above),
         Taking::Holds { quorum, units } => holds(r, s, j, rest, quorum, units),
         Taking::Drops => drops(r, s, j, rest),
     }

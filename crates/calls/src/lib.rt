@@ -23,11 +23,13 @@ mod taking;
 mod ups;
 mod withdrawals;
 
-// What a call answers. A refused call enters and leaves 0 units and hands back the record that it was given.
+// What a call answers; `above`, where REQUEST was sent, is the number of members above the one that it went to. A refused call has 0 in all three and
+// hands back the record that it was given.
 pub struct Answer {
     pub refusal: u8,
     pub entered: Units,
     pub left: Units,
+    pub above: u8,
     pub record: Record,
 }
 
@@ -43,19 +45,21 @@ fn refuse(r: Record, refusal: u8) -> Answer
         refusal,
         entered: none,
         left: none,
+        above: 0,
         record: r,
     }
 }
 
 // A call that is done, with these units entered and left.
 fn done_with(r: Record, entered: Units, left: Units) -> Answer
-    ensures answer { λ a. ⌜ answerOf a ≡ doneWith (record { entered = entered; left = left }) (view r) ⌝ }
+    ensures answer { λ a. ⌜ answerOf a ≡ doneWith (record { entered = entered; left = left; above = 0 }) (view r) ⌝ }
     ensures accepted { λ a. ⌜ a .refusal ≡ 0 ⌝ }
 {
     Answer {
         refusal: refusals::NO_REFUSAL,
         entered,
         left,
+        above: 0,
         record: r,
     }
 }
@@ -110,8 +114,8 @@ pub fn request(r: Record, s: usize, q: usize, h: usize) -> Answer
     if !is_idle(p) {
         return refuse(r, refusals::NOT_IDLE);
     }
-    let member = stations::lowest_from(r.table[q], 0);
-    asking::ask(r, s, q as u8, u, member as u8)
+    let next = stations::lowest_from(r.table[q], 0);
+    asking::ask(r, s, q as u8, u, next.member as u8, next.above as u8)
 }
 
 // The oldest message of station s to arbiter j is delivered.

@@ -21,7 +21,7 @@ use Rattle.claim.proofs.EndingCall.{call-ends}
 is-record : (a : Answer) (v : Val) → IsAnswer a v → IsRecord (a .«record») (recordOf v)
 is-record a v p =
     subst (λ (u : Val). IsRecord (a .«record») (recordOf u)) (ap only (sym (tells answer-type.the-type answer-laws.the-laws a (v ∷ []) p)))
-    (owed answer-type.the-type answer-laws.the-laws a (v ∷ []) p .1 .1 .1 .0)
+    (owed answer-type.the-type answer-laws.the-laws a (v ∷ []) p .1 .1 .1 .1 .0)
 
 -- from every memory there is an execution, and it gives a trace
 pub execution-exists : (r : Record) (w : Val) → IsRecord r w → (calls : List Call) → AllFit calls → (σ : Memory)

@@ -21,7 +21,7 @@ learnt-call r (Call.Down s j) a e = e .0
 learnt-call r (Call.Release s) a e = e .0
 learnt-call r (Call.Withdraw s) a e = e .0
 
--- one for one: refusal, units entered, units left and record
+-- one for one: refusal, units entered, units left, members still to come and record
 pub trace-runs : {r : Record} {calls : List Call} {answers : List Answer} → Trace r calls answers → map answerOf answers ≡ run (view r) calls
 unfolding run answerOf
 trace-runs Trace.none = refl

@@ -21,19 +21,22 @@ use Rattle.machine.proofs.open.Reads as open-reads
 use Rattle.machine.proofs.perform.Reads as perform-reads
 use Rattle.claim.specs.Trace.{Trace}
 
--- the units entered in the answers that these numbers are, three numbers an answer: refusal, units entered, units left
+-- the units entered in the answers that these numbers are, four numbers an answer: refusal, units entered, units left, members still to
+-- come
 unfoldable pub unitsEntered : List ℕ → ℕ
 unitsEntered [] = 0
 unitsEntered (refusal ∷ []) = 0
 unitsEntered (refusal ∷ entered ∷ []) = 0
-unitsEntered (refusal ∷ entered ∷ left ∷ numbers) = entered + unitsEntered numbers
+unitsEntered (refusal ∷ entered ∷ left ∷ []) = 0
+unitsEntered (refusal ∷ entered ∷ left ∷ above ∷ numbers) = entered + unitsEntered numbers
 
 -- and the units left
 unfoldable pub unitsLeft : List ℕ → ℕ
 unitsLeft [] = 0
 unitsLeft (refusal ∷ []) = 0
 unitsLeft (refusal ∷ entered ∷ []) = 0
-unitsLeft (refusal ∷ entered ∷ left ∷ numbers) = left + unitsLeft numbers
+unitsLeft (refusal ∷ entered ∷ left ∷ []) = 0
+unitsLeft (refusal ∷ entered ∷ left ∷ above ∷ numbers) = left + unitsLeft numbers
 
 -- in these numbers, the units entered less the units left lie between 0 and k
 abbrev pub NumbersWithin : ℕ → List ℕ → Type 0
@@ -42,12 +45,13 @@ NumbersWithin k numbers = (d : ℕ) × (d ≤ k) × (unitsEntered numbers ≡ un
 module _ (n : ℕ) (stock : Units) (table : List ℕ) where
   -- (a) "For every such list, each call's whole answer, with refusal, units entered, units left and record, is equal to that of document 01's
   -- plain machine given the same list, and after the list all units entered less all units left lie between 0 and k." The list starts
-  -- "from any fresh record of that table", whatever its unused places hold; the bound is of each amount, k that amount of the stock.
+  -- "from any fresh record of that table", whatever its unused places hold; the bound is of each amount, k that amount of the stock. Of the
+  -- members still to come: "The plain machine returns it too, and demands 2 and 3 compare it."
   abbrev pub EveryList : Type 0
   EveryList = (r : Record) (calls : List Call) (answers : List Answer) → view r ≡ fresh n stock table → Trace r calls answers
       → (map answerOf answers ≡ run (fresh n stock table) calls) × WithinStock stock (map answerOf answers)
 
-  -- The same of a lent list of calls that `perform` does not refuse, and of the numbers that it wrote, three a call; `written` are the lent
+  -- The same of a lent list of calls that `perform` does not refuse, and of the numbers that it wrote; `written` are the lent
   -- answers afterwards.
   abbrev pub Performs : Type 0
   Performs = (r : Record) (calls answers written : RefT (List ℕ)) (performed : Performed) (κs : Lfts 2)

@@ -68,14 +68,14 @@ fieldAt i vnil = vunit
 fieldAt zero (vcons v vs) = v
 fieldAt (suc i) (vcons v vs) = fieldAt i vs
 
--- the record's value in an answer's: the field after the refusal, the units entered and the units left
+-- the record's value in an answer's: the field after the refusal, the units entered, the units left and the members still to come
 abbrev pub recordOf : Val → Val
 recordOf vunit = vunit
 recordOf (vbool b) = vunit
 recordOf (vint w n) = vunit
 recordOf (vfloat f x) = vunit
 recordOf (vptr b o) = vunit
-recordOf (vstruct vs) = fieldAt 3 vs
+recordOf (vstruct vs) = fieldAt 4 vs
 
 -- From the memory σ and the record's value w the calls are run one after another, each on the record that the one before returned and in the
 -- memory that it left, and they return vs.

@@ -4,12 +4,11 @@ use mathlib.Core.Bool.{true}
 use mathlib.Core.List.{List, [], _∷_, _++_, append-nil, append-assoc}
 use mathlib.Core.Logic.{by-cases}
 use mathlib.Core.Path.{_≡_, refl, sym, ap, _∙_}
-use Prim.Native.Nat.{ℕ, suc, _+_, _-_, _*_, _≤_, _<_}
+use Prim.Native.Nat.{ℕ, _+_, _-_, _*_, _≤_, _<_}
 use native.Mathlib.Decide.{decLt}
 use native.Mathlib.Nat.{zero-add}
-use native.Mathlib.Numerals.{add-one}
 use native.Mathlib.Omega.{arith}
-use lib.ListN.{length, getD, set, drop, length-append, drop-of-length-le}
+use lib.ListN.{length, getD, drop, length-append, drop-of-length-le}
 use lib.Seq.{sets, length-sets}
 use borrow.Author.Tests.{eqb-true}
 use Rattle.lists.proofs.Joined.{sets-append, sets-front}
@@ -56,7 +55,7 @@ module _ (calls lent : List ℕ) (st₀ : State) where
     -- one call more
     module _ (h : i < length calls) (a : Answer) (answered : a ≡ call st (callOf (getD calls i 0) (getD calls (i + 1) 0) (getD calls (i + 2) 0) (getD calls (i + 3) 0))) where
       abbrev numbers : List ℕ
-      numbers = a .refusal ∷ numberOf (a .entered) ∷ numberOf (a .left) ∷ []
+      numbers = a .refusal ∷ numberOf (a .entered) ∷ numberOf (a .left) ∷ a .above ∷ []
 
       words-next : wordsOf (run st₀ (callsOf calls)) ≡ (going .written ++ numbers) ++ wordsOf (run (a .state) (callsOf (drop (i + 4) calls)))
       unfolding run wordsOf
@@ -69,16 +68,12 @@ module _ (calls lent : List ℕ) (st₀ : State) where
       unfolding after
       state-next = going .state ∙ rw (calls-next calls i (whole h)) (ap (λ (x : Answer). after (x .state) (callsOf (drop (i + 4) calls))) (sym answered))
 
-      stored-next : set (set (set out o (a .refusal)) (o + 1) (numberOf (a .entered))) (o + 2) (numberOf (a .left)) ≡ sets lent 0 (going .written ++ numbers)
+      stored-next : sets out o numbers ≡ sets lent 0 (going .written ++ numbers)
       stored-next =
-          ap (λ (l : List ℕ). set (set (set l o (a .refusal)) (o + 1) (numberOf (a .entered))) (o + 2) (numberOf (a .left))) (going .stored)
-          ∙ rw (add-one o, two)
-          (sym (sets-append lent 0 (going .written) numbers ∙ rw (zero-add (length (going .written)), going .long)))
-        where
-          two : o + 2 ≡ suc (suc o)
-          two = omega arith
+          ap (λ (l : List ℕ). sets l o numbers) (going .stored)
+          ∙ sym (sets-append lent 0 (going .written) numbers ∙ rw (zero-add (length (going .written)), going .long))
 
-      pub going-more : (next : List ℕ) → next ≡ set (set (set out o (a .refusal)) (o + 1) (numberOf (a .entered))) (o + 2) (numberOf (a .left)) → Going calls lent st₀ next (a .state) (i + 4) (o + answerWords)
+      pub going-more : (next : List ℕ) → next ≡ sets out o numbers → Going calls lent st₀ next (a .state) (i + 4) (o + answerWords)
       going-more next is =
           record {
             within = whole h;

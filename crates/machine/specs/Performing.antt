@@ -36,9 +36,9 @@ doWords = 5
 abbrev pub callNumbers : ℕ
 callNumbers = 4
 
--- and an answer three
+-- and an answer four
 abbrev pub answerWords : ℕ
-answerWords = 3
+answerWords = 4
 
 -- `do` is one of its words, `with` 0 in a release and in a withdraw, `units` 0 except in a request: "`with` is the quorum of a request, the
 -- arbiter of up and down, 0 in a release. `units` is 0 except in a request." and "The journal has `do=withdraw` with 0 and 0."
@@ -67,10 +67,10 @@ callsOf (what ∷ s ∷ []) = []
 callsOf (what ∷ s ∷ w ∷ []) = []
 callsOf (what ∷ s ∷ w ∷ h ∷ rest) = callOf what s w h ∷ callsOf rest
 
--- the numbers of an answer: refusal, units entered, units left
+-- the numbers of an answer: refusal, units entered, units left, members still to come
 unfoldable pub wordsOf : List Answer → List ℕ
 wordsOf [] = []
-wordsOf (a ∷ answers) = a .refusal ∷ numberOf (a .entered) ∷ numberOf (a .left) ∷ wordsOf answers
+wordsOf (a ∷ answers) = a .refusal ∷ numberOf (a .entered) ∷ numberOf (a .left) ∷ a .above ∷ wordsOf answers
 
 -- 15 where a call is "not of the form", 16 where the answers find no room ("15 before 16"); then no call is made
 abbrev pub listTests : List ℕ → ℕ → List Test

@@ -1,9 +1,10 @@
 // Calls as numbers: whether they are of the form, and the call that four numbers stand for.
 ghost use mathlib.Core.Bool.{true};
-ghost use mathlib.Core.List.{_++_};
+ghost use mathlib.Core.List.{[], _∷_, _++_};
 ghost use mathlib.Core.Path.{_≡_};
 ghost use Prim.Native.Nat.{_+_, _*_, _≤_};
-ghost use lib.ListN.{length, getD, set, drop};
+ghost use lib.ListN.{length, getD, drop};
+ghost use lib.Seq.{sets};
 ghost use Rattle.plain.specs.Run.{call, run as runOf, after};
 ghost use Rattle.records.specs.View.{view};
 ghost use Rattle.calls.specs.Answers.{answerOf};
@@ -79,15 +80,16 @@ fn answer_at(r: Record, calls: &[u16], i: usize) -> Answer
 }
 
 // The numbers of an answer, from place `at` on.
-fn write_answer(answers: &mut [u16], at: usize, refusal: u8, entered: Units, left: Units)
+fn write_answer(answers: &mut [u16], at: usize, refusal: u8, entered: Units, left: Units, above: u8)
     requires { ⌜ at + answerWords ≤ length (now answers) ⌝ }
-    ensures { λ _. ⌜ now (answers .exit) ≡ set (set (set (now (answers .entry)) at refusal) (at + 1) (numberOf entered)) (at + 2) (numberOf left) ⌝ }
+    ensures { λ _. ⌜ now (answers .exit) ≡ sets (now (answers .entry)) at (refusal ∷ numberOf entered ∷ numberOf left ∷ above ∷ []) ⌝ }
 {
     let entered = units::number_of(entered);
     let left = units::number_of(left);
     answers[at] = refusal as u16;
     answers[at + 1] = entered as u16;
     answers[at + 2] = left as u16;
+    answers[at + 3] = above as u16;
 }
 
 // All calls of the list, each on the record that the one before returned, and their answers.
@@ -103,7 +105,7 @@ pub(crate) fn run(r: Record, calls: &[u16], answers: &mut [u16]) -> Record
         let a = answer_at(record, calls, i);
         let entered = a.entered;
         let left = a.left;
-        write_answer(answers, at, a.refusal, entered, left);
+        write_answer(answers, at, a.refusal, entered, left, a.above);
         let next = a.record;
         record = next;
         i += CALL_NUMBERS;

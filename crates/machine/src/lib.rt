@@ -20,10 +20,11 @@ pub use call_lists::is_formed;
 pub use call_lists::all_formed;
 
 // A lent list of calls has four numbers a call: what to do, the station, the quorum of a request or the arbiter of up and down (0 otherwise),
-// and the units of a request (0 otherwise). Its answers are three numbers a call: refusal, units entered, units left.
+// and the units of a request (0 otherwise). Its answers are four numbers a call: refusal, units entered, units left, members
+// still to come.
 pub const CALL_NUMBERS: usize = 4;
 
-pub const ANSWER_NUMBERS: usize = 3;
+pub const ANSWER_NUMBERS: usize = 4;
 
 pub const DO_REQUEST: u16 = 0;
 

@@ -7,6 +7,7 @@ ghost use Rattle.quorum.specs.Answer.{said as checkedSays, answer};
 ghost use Rattle.quorum.specs.Limits.{mostStations};
 ghost use Rattle.quorum.specs.Scratch.{cleaned};
 ghost use Rattle.records.specs.View.{arbiterOf};
+ghost use Rattle.stations.specs.Sets.{nextFrom};
 ghost use Rattle.tables.specs.Cube.{cubeTable, cubeRefusal};
 ghost use Rattle.tables.specs.Made.{said as madeSays, answer as making, written};
 ghost use Rattle.tables.specs.Singleton.{singletonTable, singletonRefusal};
@@ -29,6 +30,7 @@ pub use journal::pafluzeno_tally;
 pub use journal::pafluzeno_write_record;
 use quorum::Checked;
 use records::Arbiter;
+use stations::NextMember;
 use tables::Made;
 
 // The messages by number, and how many they are.
@@ -88,6 +90,14 @@ pub extern "C" fn pafluzeno_cube(a: usize, k: usize, out: &mut [u16]) -> Made
     ensures written { λ _. ⌜ now (out .exit) ≡ written (cubeRefusal a k (length (now (out .entry)))) (cubeTable a k) (now (out .entry)) ⌝ }
 {
     tables::cube(a, k, out)
+}
+
+// The next member of a quorum from a station on, 16 if there is none, and how many members lie above it.
+#[no_mangle]
+pub extern "C" fn pafluzeno_next_member(quorum: u16, from: usize) -> NextMember
+    ensures { λ r. ⌜ r ≡ nextFrom quorum from ⌝ }
+{
+    stations::lowest_from(quorum, from)
 }
 
 // The message in the machine's own form.

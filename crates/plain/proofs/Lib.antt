@@ -20,6 +20,7 @@ pub mod Invariant
 pub mod InvariantKept
 pub mod Held
 pub mod Withdrawn
+pub mod StillToCome
 pub mod UnderWay
 pub mod SameTable
 pub mod Bound
@@ -30,6 +31,7 @@ pub mod Exceeded
 pub mod HandMade
 pub mod ServiceExamples
 pub mod StationExamples
+pub mod ToComeExamples
 pub mod RefusalExamples
 pub mod RangeExamples
 pub mod WithdrawExamples

@@ -17,7 +17,7 @@ use Rattle.plain.specs.Inner.Passed.{Requests, Delivers, Releases, Withd
 use Rattle.plain.specs.InRange.{inRange}
 use Rattle.plain.specs.Lanes.{isEmpty, oldest, noPlace}
 use Rattle.plain.specs.Release.{isHolding, somePasses, backPasses, releaseTests, releaseRefusal, givenBack, released, held, release}
-use Rattle.plain.specs.Request.{isIdle, requestPasses, requestTests, requestRefusal, requested, request}
+use Rattle.plain.specs.Request.{isIdle, requestPasses, requestTests, requestRefusal, requested, requestReturns, request}
 use Rattle.plain.specs.State.{State}
 use Rattle.plain.specs.Up.{upPasses, upTests, deliveredOf, delivered, up}
 use Rattle.plain.specs.Withdraw.{isCollecting, leavingPasses, withdrawPasses, withdrawTests, withdrawRefusal, givenUp, withdrawn, withdraw}
@@ -56,15 +56,15 @@ module _ (st : State) (s q : ℕ) (h : Units) where
   -- the test at place i is broken, and none before it
   pub request-refused : (i : ℕ) → BrokenAt i (requestTests st s q h) → ltb 0 (numberAt i (requestTests st s q h)) ≡ true → request st s q h ≡ refused st (numberAt i (requestTests st s q h))
   unfolding request requestRefusal
-  request-refused i b n = answered-refused st nothing (requested st s q h) i (requestTests st s q h) b n
+  request-refused i b n = answered-refused st (requestReturns st q) (requested st s q h) i (requestTests st s q h) b n
 
   module _ (r : Requests st s q h) where
     pub request-kept : Kept (take 5 (requestTests st s q h))
     request-kept = (range-kept (r .range), (lt-leb (st .n) s (r .station), (lt-leb (length (st .table)) q (r .quorum), (range-kept (r .units), (rw (r .idle), tt)))))
 
-    pub request-done : requestPasses st s q h ≡ false → request st s q h ≡ done nothing (requested st s q h)
+    pub request-done : requestPasses st s q h ≡ false → request st s q h ≡ done (requestReturns st q) (requested st s q h)
     unfolding request requestRefusal
-    request-done room = answered-done st nothing (requested st s q h) (requestTests st s q h) (kept-both 5 (requestTests st s q h) request-kept (room, tt))
+    request-done room = answered-done st (requestReturns st q) (requested st s q h) (requestTests st s q h) (kept-both 5 (requestTests st s q h) request-kept (room, tt))
 
 -- ---- Up and Down: the same tests, each with its own for the room
 
@@ -125,7 +125,7 @@ module _ (st : State) (s j : ℕ) where
     down-full d f = delivery-full st s j (st .down s j) (downPassesOf st s j) (returning st s j (st .down s j)) (received st s j (st .down s j)) d f
 
     pub down-done : Delivers st s j (st .down s j) m rest → downPassesOf st s j m ≡ false
-        → down st s j ≡ done (returned (takenAt st s j m)) (receivedAs st s j rest (takenAt st s j m))
+        → down st s j ≡ done (returned st (takenAt st s j m)) (receivedAs st s j rest (takenAt st s j m))
     unfolding down received returning
     down-done d room =
         delivery-done st s j (st .down s j) (downPassesOf st s j) (returning st s j (st .down s j)) (received st s j (st .down s j)) d room ∙ rw (d .taken)

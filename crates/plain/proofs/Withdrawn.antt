@@ -19,7 +19,7 @@ use Rattle.units.proofs.Amounts.{amount-none}
 use Rattle.plain.specs.Answer.{Returned, nothing, leftOnly, answered}
 use Rattle.plain.specs.Down.{Taken, onward, taken, takenAt, enters, downRefusal, phaseThen, receivedAs, received, returning, down}
 use Rattle.plain.specs.Release.{releaseRefusal, givenBack, released, held, release}
-use Rattle.plain.specs.Request.{requestRefusal, lowest, requested, request}
+use Rattle.plain.specs.Request.{requestRefusal, lowest, requested, requestReturns, request}
 use Rattle.plain.specs.Run.{Call, call, after}
 use Rattle.plain.specs.State.{State}
 use Rattle.plain.specs.Up.{upRefusal, deliveredOf, delivered, up}
@@ -94,7 +94,7 @@ module _ (s : ℕ) where
     stays : (c : Call) → asks s st c ≡ false → collects (call st c .state) ≡ false
     unfolding call request requested up down release withdraw
     stays (Call.Request t q h) e =
-        answered-as st nothing (requested st t q h) (λ x. (eqb t s && eqb (x .refusal) 0) ≡ false → collects (x .state) ≡ false) (requestRefusal st t q h)
+        answered-as st (requestReturns st q) (requested st t q h) (λ x. (eqb t s && eqb (x .refusal) 0) ≡ false → collects (x .state) ≡ false) (requestRefusal st t q h)
         (λ z y. rw (at-other (st .phase) t (Collecting q h (lowest st q)) s (λ (i : s ≡ t). true≢false (rw (eq-eqb t s (sym i)) at y))) none)
         (λ y. none)
         e
@@ -116,16 +116,16 @@ module _ (s : ℕ) where
     Entered t u next = (part t u ≡ 0) ⊎ ((collects st ≡ true) × (collects next ≡ false))
 
     -- only Down enters anything
-    answer-none : (t r : ℕ) (l : Units) (next : State) → part t (answered st r (leftOnly l) next .entered) ≡ 0
-    answer-none t r l next = answered-as st (leftOnly l) next (λ x. part t (x .entered) ≡ 0) r (λ z. part-none t) (part-none t)
+    answer-none : (t r : ℕ) (x : Returned) (next : State) → x .entered ≡ noUnits → part t (answered st r x next .entered) ≡ 0
+    answer-none t r x next none = answered-as st x next (λ a. part t (a .entered) ≡ 0) r (λ z. rw none (part-none t)) (part-none t)
 
     request-none : (q : ℕ) (h : Units) → entersAt a s st (Call.Request s q h) ≡ 0
     unfolding call request
-    request-none q h = answer-none s (requestRefusal st s q h) noUnits (requested st s q h)
+    request-none q h = answer-none s (requestRefusal st s q h) (requestReturns st q) (requested st s q h) refl
 
     withdraw-none : entersAt a s st (Call.Withdraw s) ≡ 0
     unfolding call withdraw
-    withdraw-none = answer-none s (withdrawRefusal st s) noUnits (withdrawn st s (st .phase s))
+    withdraw-none = answer-none s (withdrawRefusal st s) nothing (withdrawn st s (st .phase s)) refl
 
     message-enters : (t j : ℕ) (rest : List Message) (m : Message) → Entered t (enters (takenAt st t j m)) (receivedAs st t j rest (takenAt st t j m))
     unfolding taken onward receivedAs
@@ -158,14 +158,14 @@ module _ (s : ℕ) where
 
     call-enters : (c : Call) → (entersAt a s st c ≡ 0) ⊎ ((collects st ≡ true) × (collects (call st c .state) ≡ false))
     unfolding call request up down release withdraw
-    call-enters (Call.Request t q h) = inl (answer-none t (requestRefusal st t q h) noUnits (requested st t q h))
-    call-enters (Call.Up t j) = inl (answer-none t (upRefusal st t j) noUnits (delivered st t j (st .up t j)))
+    call-enters (Call.Request t q h) = inl (answer-none t (requestRefusal st t q h) (requestReturns st q) (requested st t q h) refl)
+    call-enters (Call.Up t j) = inl (answer-none t (upRefusal st t j) nothing (delivered st t j (st .up t j)) refl)
     call-enters (Call.Down t j) =
         answered-as st (returning st t j (st .down t j)) (received st t j (st .down t j)) (λ x. Entered t (x .entered) (x .state)) (downRefusal st t j)
         (λ z. down-enters t j (st .down t j))
         (inl (part-none t))
-    call-enters (Call.Release t) = inl (answer-none t (releaseRefusal st t) (held (st .phase t)) (released st t (st .phase t)))
-    call-enters (Call.Withdraw t) = inl (answer-none t (withdrawRefusal st t) noUnits (withdrawn st t (st .phase t)))
+    call-enters (Call.Release t) = inl (answer-none t (releaseRefusal st t) (leftOnly (held (st .phase t))) (released st t (st .phase t)) refl)
+    call-enters (Call.Withdraw t) = inl (answer-none t (withdrawRefusal st t) nothing (withdrawn st t (st .phase t)) refl)
 
 -- ---- lists of calls
 

@@ -9,8 +9,8 @@ use Rattle.stations.specs.Sets.{places, lowestFrom}
 use Rattle.quorum.specs.Family.{quorum}
 use Rattle.units.specs.Units.{noUnits}
 use Rattle.units.specs.declared.Units.{Units}
-use Rattle.plain.specs.Answer.{Answer, Returned, nothing, enteredOnly, answered}
-use Rattle.plain.specs.Asking.{askPasses, asking}
+use Rattle.plain.specs.Answer.{Answer, Returned, nothing, answered}
+use Rattle.plain.specs.Asking.{toCome, askPasses, asking}
 use Rattle.plain.specs.Delivery.{deliveryTests, deliveryRefusal}
 use Rattle.plain.specs.State.{State}
 use Rattle.plain.specs.Updates.{withPhases, withUps, withDown}
@@ -64,9 +64,16 @@ enters (Taken.holds q h) = h
 enters Taken.idles = noUnits
 enters Taken.drops = noUnits
 
--- and so much Down returns
-abbrev pub returned : Taken → Returned
-returned t = enteredOnly (enters t)
+-- "after sending REQUEST, the number of members above the addressee; otherwise 0"
+abbrev pub comes : State → Taken → ℕ
+comes st (Taken.asks q h m) = toCome st q m
+comes st (Taken.holds q h) = 0
+comes st Taken.idles = 0
+comes st Taken.drops = 0
+
+-- what Down returns then
+abbrev pub returned : State → Taken → Returned
+returned st t = record { entered = enters t; left = noUnits; above = comes st t }
 
 -- "a lane .. would pass its limit": only REQUEST takes a place
 abbrev pub downPasses : State → ℕ → Taken → Bool
@@ -111,7 +118,7 @@ received st s j (m ∷ rest) = receivedAs st s j rest (takenAt st s j m)
 -- what Down returns of the lane's oldest message
 unfoldable pub returning : State → ℕ → ℕ → List Message → Returned
 returning st s j [] = nothing
-returning st s j (m ∷ rest) = returned (takenAt st s j m)
+returning st s j (m ∷ rest) = returned st (takenAt st s j m)
 
 -- Down(s, j)
 unfoldable pub down : State → ℕ → ℕ → Answer

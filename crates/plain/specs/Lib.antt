@@ -13,5 +13,6 @@ pub mod Release
 pub mod Withdraw
 pub mod Run
 pub mod Withdrawn
+pub mod StillToCome
 pub mod Exceeding
 pub mod Inner

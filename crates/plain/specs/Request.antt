@@ -9,8 +9,8 @@ use Rattle.stations.specs.Sets.{lowestFrom}
 use Rattle.quorum.specs.Family.{quorum}
 use Rattle.units.specs.Units.{requestIn}
 use Rattle.units.specs.declared.Units.{Units}
-use Rattle.plain.specs.Answer.{Answer, nothing, answered}
-use Rattle.plain.specs.Asking.{askPasses, asking}
+use Rattle.plain.specs.Answer.{Answer, Returned, aboveOnly, answered}
+use Rattle.plain.specs.Asking.{toCome, askPasses, asking}
 use Rattle.plain.specs.InRange.{inRange}
 use Rattle.plain.specs.Lanes.{noPlace}
 use Rattle.plain.specs.State.{State}
@@ -51,6 +51,10 @@ requestRefusal st s q h = firstBroken (requestTests st s q h)
 unfoldable pub requested : State → ℕ → ℕ → Units → State
 requested st s q h = asking st s q h (lowest st q)
 
+-- "after sending REQUEST, the number of members above the addressee"
+abbrev pub requestReturns : State → ℕ → Returned
+requestReturns st q = aboveOnly (toCome st q (lowest st q))
+
 -- Request(s, q, h)
 unfoldable pub request : State → ℕ → ℕ → Units → Answer
-request st s q h = answered st (requestRefusal st s q h) nothing (requested st s q h)
+request st s q h = answered st (requestRefusal st s q h) (requestReturns st q) (requested st s q h)

@@ -25,14 +25,14 @@ fn print(r: Record, calls: &[u16], answers: &mut [u16]) {
 
 // With room for one number more than the eight answers.
 pub fn list(name: &[u8], r: Record, calls: &[u16]) {
-    let mut answers = [7u16; 25];
+    let mut answers = [7u16; 33];
     report::text(name);
     print(r, calls, &mut answers);
 }
 
 // With room for one number less.
 pub fn short(name: &[u8], r: Record, calls: &[u16]) {
-    let mut answers = [7u16; 23];
+    let mut answers = [7u16; 31];
     report::text(name);
     print(r, calls, &mut answers);
 }

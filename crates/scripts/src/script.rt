@@ -59,6 +59,7 @@ pub fn answered(a: Answer) -> Record {
     report::number(b" refused=", a.refusal as usize);
     report::number(b" entered=", units::number_of(a.entered) as usize);
     report::number(b" left=", units::number_of(a.left) as usize);
+    report::number(b" above=", a.above as usize);
     report::text(b"\n");
     a.record
 }

@@ -3,10 +3,17 @@ ghost use mathlib.Core.Path.{_≡_};
 ghost use Prim.Native.Nat.{min};
 ghost use lib.Bits.{bitAnd};
 ghost use Rattle.stations.specs.Member.{member};
-ghost use Rattle.stations.specs.Sets.{everyone as allOf, only as onlyOf, contains as containsAll, countBelow, places, lowestFrom};
+ghost use Rattle.stations.specs.Sets.{everyone as allOf, only as onlyOf, contains as containsAll, countBelow, places, nextFrom};
 
 // A mask has places for the stations 0 to 15.
 pub const PLACES: usize = 16;
+
+// A member of a set, and how many members lie above it.
+#[repr(C)]
+pub struct NextMember {
+    pub member: usize,
+    pub above: usize,
+}
 
 // Whether station i is a member of q. No station from 16 on is.
 pub fn has(q: u16, i: usize) -> bool
@@ -67,16 +74,26 @@ pub fn count(q: u16) -> usize
     members
 }
 
-// The lowest member from station `from` on, 16 if there is none.
-pub fn lowest_from(q: u16, from: usize) -> usize
-    ensures { λ r. ⌜ r ≡ lowestFrom q from ⌝ }
+// The lowest member from station `from` on, 16 if there is none, and how many members lie above it. One pass from the highest place down: the
+// last member found is the lowest.
+pub fn lowest_from(q: u16, from: usize) -> NextMember
+    ensures { λ r. ⌜ r ≡ nextFrom q from ⌝ }
 {
-    let mut i = from;
-    while i < PLACES {
+    let mut member = PLACES;
+    let mut found: usize = 0;
+    let mut i = PLACES;
+    while from < i {
+        i -= 1;
         if has(q, i) {
-            return i;
+            member = i;
+            found += 1;
         }
-        i += 1;
     }
-    PLACES
+    if found == 0 {
+        return NextMember { member, above: 0 };
+    }
+    NextMember {
+        member,
+        above: found - 1, // but for the member itself
+    }
 }

@@ -3,7 +3,7 @@
 
 use crate::raw;
 
-pub use raw::{Arrival, Checked, Made, Part, Printed, Read, Reply, Sum, Tallied, Written};
+pub use raw::{Arrival, Checked, Made, Next, Part, Printed, Read, Reply, Sum, Tallied, Written};
 pub use raw::{RELEASE, REQUEST, WITHDRAW};
 
 pub fn check(n: usize, k: usize, quorums: &[u16], scratch: &mut [u8]) -> Checked {
@@ -37,6 +37,11 @@ pub fn uniform(n: usize, k: usize, out: &mut [u16]) -> Made {
 
 pub fn cube(a: usize, k: usize, out: &mut [u16]) -> Made {
     made(raw::pafluzeno_cube, a, k, out)
+}
+
+pub fn next_member(quorum: u16, from: usize) -> Next {
+    // SAFETY: numbers go by value.
+    unsafe { raw::pafluzeno_next_member(quorum, from) }
 }
 
 pub fn tell(arbiter: &mut raw::Arbiter, message: Arrival) -> Reply {

@@ -2,7 +2,7 @@
 //! record, and the journal. What each answers is proved; this crate only passes slices and references on.
 //!
 //! ```
-//! use pafluzeno::{check, release, request, uniform, withdraw, Arbiter, Refusal, MOST_QUORUMS, SCRATCH_BYTES};
+//! use pafluzeno::{check, next_member, release, request, uniform, withdraw, Arbiter, Refusal, MOST_QUORUMS, SCRATCH_BYTES};
 //! use pafluzeno::{page, read_line, read_record, tally, write_record, Do, Record, PAGE_ROOM};
 //!
 //! // five stations, two positions: a table, and whether it may be used
@@ -15,6 +15,13 @@
 //! let refused = check(5, 4, &table[..quorums], &mut scratch).unwrap_err();
 //! assert_eq!(refused.refusal, Refusal::NoCommonMember);
 //! assert_eq!(refused.family(), [0, 1, 2, 3, 4]);
+//!
+//! // a station asks the members of its quorum from the lowest up; of three, one lies above the second: it is at 2 of 3
+//! let first = next_member(0b10110, 0).unwrap();
+//! assert_eq!((first.member, first.above + 1), (1, 3));
+//! let second = next_member(0b10110, first.member + 1).unwrap();
+//! assert_eq!((second.member, second.above), (2, 1));
+//! assert_eq!(next_member(0b10110, 5), None);
 //!
 //! // a station's own arbiter: station 3 is granted both positions, station 1 waits until they are back
 //! let mut arbiter = Arbiter::default();
@@ -56,7 +63,7 @@ mod refusal;
 
 pub use journal::{after_record, page, read_line, read_record, tally, write_record};
 pub use journal::{Do, Tally};
-pub use raw::{Arbiter, Entry, Record};
+pub use raw::{Arbiter, Entry, Next, Record};
 pub use raw::{MOST_QUORUMS, MOST_STATIONS, MOST_UNITS, PAGE_ROOM, SCRATCH_BYTES};
 pub use refusal::Refusal;
 
@@ -126,6 +133,13 @@ pub fn uniform(stations: usize, stock: usize, out: &mut [u16]) -> Result<usize, 
 /// side^(stock + 1) stations; for each the quorum of those that agree with it in at least one coordinate.
 pub fn cube(side: usize, stock: usize, out: &mut [u16]) -> Result<usize, Refusal> {
     written(header::cube(side, stock, out))
+}
+
+/// The next member of a quorum from a station on, and how many members lie above it. A station that collects asks the next from 0 on, and after the
+/// GRANT of j the next from j + 1 on, until there is none and it holds.
+pub fn next_member(quorum: u16, from: usize) -> Option<Next> {
+    let next = header::next_member(quorum, from);
+    (next.member != raw::NO_MEMBER).then_some(next)
 }
 
 fn tell(arbiter: &mut Arbiter, message: raw::Arrival) -> Result<u16, Refusal> {

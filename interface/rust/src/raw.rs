@@ -6,6 +6,8 @@ pub const MOST_UNITS: usize = 200;
 pub const MOST_QUORUMS: usize = 64;
 /// The check wants so many bytes of scratch.
 pub const SCRATCH_BYTES: usize = 4096;
+/// What stands for a member where there is none.
+pub const NO_MEMBER: usize = 16;
 /// A page wants a buffer of so many bytes; none is longer.
 pub const PAGE_ROOM: usize = 196617;
 
@@ -22,6 +24,14 @@ pub struct Checked {
 pub struct Made {
     pub refusal: u8,
     pub quorums: usize,
+}
+
+/// A member of a quorum, and how many of its members lie above that one.
+#[derive(Clone, Copy, PartialEq, Eq, Debug)]
+#[repr(C)]
+pub struct Next {
+    pub member: usize,
+    pub above: usize,
 }
 
 /// A place in an arbiter's line.
@@ -136,6 +146,7 @@ extern "C" {
     pub fn pafluzeno_singleton(n: usize, station: usize, out: *mut u16, out_len: usize) -> Made;
     pub fn pafluzeno_uniform(n: usize, k: usize, out: *mut u16, out_len: usize) -> Made;
     pub fn pafluzeno_cube(a: usize, k: usize, out: *mut u16, out_len: usize) -> Made;
+    pub fn pafluzeno_next_member(quorum: u16, from: usize) -> Next;
     pub fn pafluzeno_tell(arbiter: &mut Arbiter, message: Arrival) -> Reply;
     pub fn pafluzeno_read_line(
         key: *const u8,

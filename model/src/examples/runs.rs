@@ -65,13 +65,13 @@ const LIST: [ListCall; 8] = [
     (Some(Do::Down), 1, 1, 0),
 ];
 
-/// A whole list at once: an unknown call in it is 15 and too little room for three numbers a call 16, and then nothing is
+/// A whole list at once: an unknown call in it is 15 and too little room for four numbers a call 16, and then nothing is
 /// written.
 fn performed(calls: &[ListCall], answers: &mut [usize]) -> usize {
     if calls.iter().any(|c| c.0.is_none()) {
         return 15;
     }
-    if answers.len() < 3 * calls.len() {
+    if answers.len() < 4 * calls.len() {
         return 16;
     }
     let mut record = p2();
@@ -83,7 +83,7 @@ fn performed(calls: &[ListCall], answers: &mut [usize]) -> usize {
             units,
         };
         let a = take_step(&record, &step);
-        answers[3 * i..3 * i + 3].copy_from_slice(&[a.refusal, a.entered, a.left]);
+        answers[4 * i..4 * i + 4].copy_from_slice(&[a.refusal, a.entered, a.left, a.above]);
         record = a.record;
     }
     0
@@ -93,9 +93,9 @@ fn lists(out: &mut Out) {
     let mut unknown = LIST;
     unknown[7].0 = None;
     let lists = [
-        ("P11 and P12", LIST, 25),
-        ("refusal 16", LIST, 23),
-        ("refusal 15", unknown, 23),
+        ("P11 and P12", LIST, 33),
+        ("refusal 16", LIST, 31),
+        ("refusal 15", unknown, 31),
     ];
     for (name, calls, room) in lists {
         let mut answers = vec![7; room];

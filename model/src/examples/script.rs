@@ -32,14 +32,9 @@ pub struct Out {
 impl Out {
     /// One call: its line, and the record after it.
     pub fn call(&mut self, name: &str, record: &Record, text: &str) -> Record {
-        let Answer {
-            refusal,
-            entered,
-            left,
-            record,
-        } = call(record, text);
-        self.text += &format!("{name} {text} refused={refusal} entered={entered} left={left}\n");
-        record
+        let answer = call(record, text);
+        self.text += &format!("{name} {text} {}\n", answer.numbers());
+        answer.record
     }
 
     /// A whole example, each call on the record that the one before handed back.

@@ -1,30 +1,32 @@
-//! The real program, run on a text and compared with the model's page.
+//! The real programs, run on a text and compared with what the model prints for it.
 
-use model::page::page;
+use model::page::{answers, page};
 use std::fs::File;
 use std::io::Write;
 use std::path::PathBuf;
 use std::process::{Command, Output, Stdio};
 use std::time::Duration;
 
-/// `PAFLUZENO_JOURNAL`, else the place where the build leaves it.
-fn path() -> PathBuf {
-    let path = match std::env::var_os("PAFLUZENO_JOURNAL") {
+const JOURNAL: &str = "journal";
+
+/// `PAFLUZENO_JOURNAL` or `PAFLUZENO_ANSWERS`, else the place where the build leaves the program.
+fn path(program: &str) -> PathBuf {
+    let path = match std::env::var_os(format!("PAFLUZENO_{}", program.to_uppercase())) {
         Some(path) => PathBuf::from(path),
-        None => PathBuf::from(env!("CARGO_MANIFEST_DIR")).join("../target/bin/journal"),
+        None => PathBuf::from(env!("CARGO_MANIFEST_DIR")).join(format!("../target/bin/{program}")),
     };
-    assert!(path.is_file(), "the program journal is not at {path:?}");
+    assert!(path.is_file(), "the program {program} is not at {path:?}");
     path
 }
 
 /// The text through a pipe, in pieces of so many bytes.
-fn run(text: &[u8], piece: usize) -> Output {
-    let mut child = Command::new(path())
+fn run(program: &str, text: &[u8], piece: usize) -> Output {
+    let mut child = Command::new(path(program))
         .stdin(Stdio::piped())
         .stdout(Stdio::piped())
         .stderr(Stdio::piped())
         .spawn()
-        .expect("the program journal starts");
+        .expect("the program starts");
     let mut input = child.stdin.take().expect("a pipe");
     std::thread::scope(|scope| {
         scope.spawn(move || {
@@ -36,14 +38,14 @@ fn run(text: &[u8], piece: usize) -> Output {
                 let _ = input.write_all(part);
             }
         });
-        child.wait_with_output().expect("the program journal ends")
+        child.wait_with_output().expect("the program ends")
     })
 }
 
 /// Standard input that cannot be read: a directory.
 pub fn run_unreadable() -> Output {
     let directory = File::open(env!("CARGO_MANIFEST_DIR")).expect("a directory");
-    Command::new(path())
+    Command::new(path(JOURNAL))
         .stdin(directory)
         .output()
         .expect("the program journal starts")
@@ -73,8 +75,16 @@ pub fn compare(kind: &str, number: u64, text: &[u8]) -> String {
 }
 
 pub fn compare_in_pieces(kind: &str, number: u64, text: &[u8], piece: usize) -> String {
-    let output = run(text, piece);
-    let expected = page(text);
+    same(kind, number, text, run(JOURNAL, text, piece), page(text))
+}
+
+/// The same of the program that prints all numbers of the answers.
+pub fn compare_answers(kind: &str, number: u64, text: &[u8]) -> String {
+    let output = run("answers", text, text.len().max(1));
+    same(kind, number, text, output, answers(text))
+}
+
+fn same(kind: &str, number: u64, text: &[u8], output: Output, expected: String) -> String {
     let by_line = output
         .stdout
         .split(|&b| b == b'\n')

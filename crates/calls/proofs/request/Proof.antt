@@ -2,12 +2,13 @@
 -- Assumes nothing.
 use mathlib.Core.Bool.{true, false, not}
 use mathlib.Core.Path.{_≡_, refl, sym, ap, _∙_}
-use Prim.Native.Nat.{_<_}
+use Prim.Native.Nat.{ℕ, _≤_, _<_}
 use native.Mathlib.Omega.{arith}
 use lib.ListN.{length, getD, take}
 use borrow.Author.Needs.{needs}
 use borrow.Author.Tests.{not-false, le-leb, lt-leb}
 use Rattle.lists.proofs.Broken.{Kept}
+use Rattle.stations.specs.Sets.{places}
 use Rattle.quorum.specs.Limits.{mostStations, mostQuorums}
 use Rattle.units.specs.Units.{requestIn, unitsOf}
 use Rattle.units.proofs.Numbers.{request-stored, requested-stored}
@@ -19,8 +20,8 @@ use Rattle.plain.proofs.Passed.{is-idle, request-refused}
 use Rattle.records.specs.View.{noStation, view}
 use Rattle.records.specs.declared.Record.{Record}
 use Rattle.records.proofs.Viewing.{phases-at}
-use Rattle.calls.specs.Inner.Parts.{askAnswer}
-use Rattle.calls.proofs.AskingMember.{request-asks, lowest-is, lowest-station}
+use Rattle.calls.proofs.AskingMember.{request-asks, lowest-station}
+use Rattle.calls.proofs.GoingOnward.{next-member, next-few}
 use Rattle.calls.proofs.RecordInRange.{few, quorums-few, limits, table-length}
 use Rattle.calls.proofs.request.Statement.{statement}
 use Rattle.calls.proofs.request.Tie as tie
@@ -143,17 +144,26 @@ module _ (c : tie.After-lowest-from) where
   abbrev all : tie.Else5
   all = c .before .before
 
-  station : c .lowest-from .result < args all .args .t1 .n
-  station = omega (arith, c .lowest-from .ensures, lowest-station (args all .args .t1) (args all .args .s) (args all .args .q) (unitsOf (args all .args .h)) (passed all))
+  abbrev set : ℕ
+  set = getD (args all .args .t1 .table) (args all .args .q) 0
+
+  station : c .lowest-from .result .member < args all .args .t1 .n
+  station = omega (arith, next-member set 0 (c .lowest-from .result) (c .lowest-from .ensures), lowest-station (args all .args .t1) (args all .args .s) (args all .args .q) (unitsOf (args all .args .h)) (passed all))
+
+  few-stations : args all .args .t1 .n ≤ mostStations
+  few-stations = few (args all .args .t1) (range (others (before all)))
+
+  few-above : c .lowest-from .result .above ≤ places
+  few-above = next-few set 0 (c .lowest-from .result) (c .lowest-from .ensures)
 
 returns-6 : tie.Need-returns-6
 returns-6 c =
-    let l = c .before in
+    let l = c .before .before .before in
     let st = args (all l) in
     let r = st .args .t1 in
     let h = unitsOf (st .args .h) in (
       rw (is-units (all l)) at (c .ask .ensures .0)
-          ∙ sym (request-asks (view r) (st .args .s) (st .args .q) h (passed (all l)) ∙ ap (askAnswer (view r) (st .args .s) (st .args .q) h) (lowest-is r (st .args .s) (st .args .q) h (passed (all l)) ∙ sym (l .lowest-from .ensures))),
+          ∙ sym (request-asks r (st .args .s) (st .args .q) h (passed (all l)) (l .lowest-from .result) (l .lowest-from .ensures)),
       c .ask .ensures .1,
     )
 
@@ -164,5 +174,5 @@ request-spec =
     (λ c κs. search needs) (λ c κs. search needs) (λ c κs. search needs) returns-4
     (λ c. omega (arith, below (others c))) (λ c. omega (arith, below (others c))) (λ c. search needs) (λ c. search needs) returns-5
     (λ c. omega (arith, few-quorums c)) (λ c. omega (arith, few-quorums c)) (λ c. search needs)
-    (λ c. omega (arith, few-quorums (all c))) (λ c. omega (arith, station c, few (args (all c) .args .t1) (range (others (before (all c))))))
-    (λ c κs. (few (args (all c) .args .t1) (range (others (before (all c)))), others (before (all c)) .if2 .left, station c)) returns-6)
+    (λ c. omega (arith, few-quorums (all c))) (λ c. omega (arith, station (c .before), few-stations (c .before))) (λ c. omega (arith, few-above (c .before .before)))
+    (λ c κs. (few-stations (c .before .before), others (before (all (c .before .before))) .if2 .left, station (c .before .before))) returns-6)

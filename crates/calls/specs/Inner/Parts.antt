@@ -9,7 +9,7 @@ use Rattle.lists.specs.Broken.{_when_, firstBroken}
 use Rattle.quorum.specs.Family.{quorum}
 use Rattle.quorum.specs.Limits.{mostStations}
 use Rattle.units.specs.declared.Units.{Units}
-use Rattle.plain.specs.Answer.{Answer, nothing, leftOnly, answered, refused, done}
+use Rattle.plain.specs.Answer.{Answer, leftOnly, aboveOnly, answered, refused, done}
 use Rattle.plain.specs.Asking.{askPasses, asking}
 use Rattle.plain.specs.Down.{Taken, takenAt}
 use Rattle.plain.specs.InRange.{inRange}
@@ -43,9 +43,9 @@ isWithdrawal Grant = false
 isWithdrawal Withdraw = true
 isWithdrawal Gone = false
 
--- what asking the member m answers, where only the room in its lane is left to be tested
-abbrev pub askAnswer : State → ℕ → ℕ → Units → ℕ → Answer
-askAnswer st s q h m = answered st (firstBroken (noPlace when askPasses st s h m ∷ [])) nothing (asking st s q h m)
+-- what asking the member m, with so many above it, answers, where only the room in its lane is left to be tested
+abbrev pub askAnswer : State → ℕ → ℕ → Units → ℕ → ℕ → Answer
+askAnswer st s q h m above = answered st (firstBroken (noPlace when askPasses st s h m ∷ [])) (aboveOnly above) (asking st s q h m)
 
 -- what a station answers that has these lanes up, is in this phase and leaves these units, or has no place in one of the lanes
 abbrev pub rowAnswer : State → ℕ → Bool → (ℕ → List Message) → Phase → Units → Answer

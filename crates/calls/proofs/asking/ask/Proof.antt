@@ -14,9 +14,9 @@ returns : tie.Need-returns
 returns c =
     let a = c .before .before .before in
     let st = a .before .before in (
-      c .refuse .ensures .0
-          ∙ sym (lane-asked (st .args .r) (st .args .s) (st .args .quorum) (st .args .units) (st .args .member) (a .lane-at .result) (a .lane-at .ensures (st .args .r .n) (st .pre .1) (st .pre .2)) (c .before .if1 .taken)),
-      λ z. c .refuse .ensures .1,
+      c .asked .ensures .0
+          ∙ sym (lane-asked (st .args .r) (st .args .s) (st .args .quorum) (st .args .units) (st .args .member) (st .args .above) (a .lane-at .result) (a .lane-at .ensures (st .args .r .n) (st .pre .1) (st .pre .2)) (c .before .if1 .taken)),
+      λ z. c .asked .ensures .1 .1,
     )
 
 returns-2 : tie.Need-returns-2
@@ -27,10 +27,10 @@ returns-2 c =
     let r = st .args .r in
     let long = stations-of r _ (st .good .0) in
     let put = c .before .with-lane .ensures (r .n) (st .pre .1) (st .pre .2) ∙ ap (at2 (lanesOf (r .n) (r .up)) (st .args .s) (st .args .member)) (c .before .before .put .ensures) in (
-      c .done .ensures .0
-          ∙ sym (asked-goes r (st .args .s) (st .args .quorum) (st .args .units) (st .args .member) (a .lane-at .result) (a .lane-at .ensures (r .n) (st .pre .1) (st .pre .2))
+      c .asked2 .ensures .0
+          ∙ sym (asked-goes r (st .args .s) (st .args .quorum) (st .args .units) (st .args .member) (st .args .above) (a .lane-at .result) (a .lane-at .ensures (r .n) (st .pre .1) (st .pre .2))
           (c .before .with-lane .result) put (st .pre .1) (omega arith) (e .if1 .left)),
-      λ z. absurd (omega (arith, c .done .ensures .1)),
+      λ z. absurd (omega (arith, c .asked2 .ensures .1 .0)),
     )
 
 pub ask-spec : {M : Type 1} → statement M

@@ -14,7 +14,7 @@ returns c =
     let a = c .before .before in
     let st = a .before in
     let x = st .args in
-    (sym (asks-full (x .r) (x .s) (x .j) (x .rest) (x .quorum) (x .units) (x .member) (st .pre .0) (answerOf (a .ask .result)) (a .ask .ensures .0) (c .if1 .taken)), λ z. refl)
+    (sym (asks-full (x .r) (x .s) (x .j) (x .rest) (x .quorum) (x .units) (x .member) (st .pre .0) (x .above) (st .pre .2) (answerOf (a .ask .result)) (a .ask .ensures .0) (c .if1 .taken)), λ z. refl)
 
 returns-2 : tie.Need-returns-2
 unfolding answerOf
@@ -22,7 +22,7 @@ returns-2 c =
     let a = c .before .before in
     let st = a .before in
     let x = st .args in
-    (sym (asks-done (x .r) (x .s) (x .j) (x .rest) (x .quorum) (x .units) (x .member) (st .pre .0) (answerOf (a .ask .result)) (a .ask .ensures .0) (c .if1 .left)), λ z. absurd (omega arith))
+    (sym (asks-done (x .r) (x .s) (x .j) (x .rest) (x .quorum) (x .units) (x .member) (st .pre .0) (x .above) (st .pre .2) (answerOf (a .ask .result)) (a .ask .ensures .0) (c .if1 .left)), λ z. absurd (omega arith))
 
 pub asks-spec : {M : Type 1} → statement M
 asks-spec = tie.close (tie.spec (λ c κs. (c .pre .0 .takes .few, c .pre .0 .takes .took .station, c .pre .1)) returns returns-2)

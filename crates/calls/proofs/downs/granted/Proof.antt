@@ -44,7 +44,7 @@ returns-2 c = (sym (taken-idle _ _ (c .enum-told .given .1)), refl)
 returns-3 : tie.Need-returns-3
 returns-3 c =
     let e = c .before in
-    (c .onward .ensures .0 _ (set e) ∙ sym (taken-here _ _ (e .before .before .p .given .1) (e .if1 .left)), c .onward .ensures .1)
+    (c .onward .ensures .0 _ (set e) ∙ sym (taken-here _ _ (e .before .before .p .given .1) (e .if1 .left)), c .onward .ensures .1 _ (set e))
 
 returns-4 : tie.Need-returns-4
 returns-4 c = (sym (taken-holding _ _ (c .enum-told2 .given .1)), refl)

@@ -1,34 +1,37 @@
 -- `calls::downs::onward` meets its contract. The lowest member above j, where there is one.
 -- Assumes nothing.
 use mathlib.Core.Path.{refl, sym}
-use Prim.Native.Nat.{_<_, _+_}
+use Prim.Native.Nat.{_+_}
 use native.Mathlib.Omega.{arith}
 use borrow.Author.Needs.{needs}
-use borrow.Author.Tests.{lt-ltb}
-use Rattle.stations.specs.Sets.{places, lowestFrom}
-use Rattle.calls.proofs.GoingOnward.{lowest-below, onward-holds, onward-asks}
+use Rattle.calls.proofs.GoingOnward.{next-few, onward-holds, onward-asks, asks-within}
 use Rattle.calls.proofs.downs.onward.Statement.{statement}
 use Rattle.calls.proofs.downs.onward.Tie as tie
 
 returns : tie.Need-returns
 returns c =
-    let l = c .before in
-    let st = l .before in
-    (λ table e. sym (onward-holds table (st .args .quorum) (st .args .units) (st .args .j) (st .args .set) e (l .lowest-from .result) (l .lowest-from .ensures) (c .if1 .taken)), refl)
+    let l = c .before .before in
+    let x = l .before .args in
+    (λ table e. sym (onward-holds table (x .quorum) (x .units) (x .j) (x .set) e (l .lowest-from .result) (l .lowest-from .ensures) (c .if1 .taken)), λ table e. refl)
+
+-- the member, seen from behind its numbers
+abbrev found : tie.After-struct-known3 → tie.After-lowest-from
+found c = c .before .before .before .before
 
 returns-2 : tie.Need-returns-2
 returns-2 c =
-    let l = c .before in
-    let st = l .before in
-    let found = l .lowest-from .ensures in
-    let small : lowestFrom (st .args .set) (st .args .j + 1) < places = omega (arith, found, c .if1 .left) in
-    let below : l .lowest-from .result < st .args .n = omega (arith, found, lowest-below (st .args .n) (st .args .set) (st .args .j + 1) (st .pre .0) small) in (
-      λ table e. sym (onward-asks table (st .args .quorum) (st .args .units) (st .args .j) (st .args .set) e (l .lowest-from .result) found (c .if1 .left)),
-      lt-ltb _ _ below,
+    let l = found c in
+    let x = l .before .args in
+    let below = c .before .before .if1 .left in (
+      λ table e. sym (onward-asks table (x .quorum) (x .units) (x .j) (x .set) e (l .lowest-from .result) (l .lowest-from .ensures) below),
+      λ table e. asks-within table (x .quorum) (x .units) (x .j) (x .set) e (l .lowest-from .result) (l .lowest-from .ensures) below (x .n) (l .before .pre .0),
     )
+
+cast-t10 : tie.Need-cast-t10
+cast-t10 c = let l = found c in omega (arith, next-few (l .before .args .set) (l .before .args .j + 1) (l .lowest-from .result) (l .lowest-from .ensures))
 
 pub onward-spec : {M : Type 1} → statement M
 onward-spec =
     tie.close
     (tie.spec
-    (λ c. search needs) (λ c. search needs) returns (λ c. search needs) returns-2)
+    (λ c. search needs) (λ c. search needs) returns (λ c. search needs) cast-t10 returns-2)

@@ -3,14 +3,14 @@
 use mathlib.Core.Path.{_≡_, sym, ap, _∙_}
 use native.Mathlib.Omega.{arith}
 use borrow.Author.Needs.{needs}
-use borrow.Author.Tests.{ltb-true}
 use Rattle.plain.specs.Down.{taken}
 use Rattle.plain.specs.declared.Message.the-variants.{Grant}
 use Rattle.records.specs.View.{lanesOf, tableOf, view}
 use Rattle.records.proofs.Viewing.{phases-at}
 use Rattle.calls.specs.Inner.Parts.{Receives}
-use Rattle.calls.specs.Inner.Takings.{takenOf, within}
+use Rattle.calls.specs.Inner.Takings.{takenOf}
 use Rattle.calls.specs.declared.downs.Taking.{Taking}
+use Rattle.calls.proofs.GoingOnward.{asked-within}
 use Rattle.calls.proofs.RecordInRange.{quorums-few, wishes}
 use Rattle.calls.proofs.downs.told_grant.Statement.{statement}
 use Rattle.calls.proofs.downs.told_grant.Tie as tie
@@ -37,10 +37,12 @@ module _ (c : tie.After-granted) where
       }
 
 asks-requires : tie.Need-asks-requires
+unfolding view
 asks-requires c κs =
     let m = c .before .before .before in
     let e = c .before .made .given .1 in
-    (receives m e, ltb-true _ _ (sym (ap (within (start m .args .t1 .n)) e) ∙ m .granted .ensures .1))
+    let (below, above) = asked-within (start m .args .t1 .n) (tableOf (start m .args .t1)) e (m .granted .ensures .1) in
+    (receives m e, below, above)
 
 returns-2 : tie.Need-returns-2
 returns-2 c = (c .holds .ensures .0, λ z. absurd (omega (arith, c .holds .ensures .1)))
