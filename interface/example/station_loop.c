@@ -67,7 +67,7 @@ static void show(int me, const char *does)
 {
     const struct station *s = &stations[me];
     if (me == 0 && s->jobs == 0)
-        printf("station 0 %s %zu: %zu of %zu\n", does, s->asked.member, s->members - s->asked.above, s->members);
+        printf("station 0 %s station %zu: %zu of %zu\n", does, s->asked.member, s->members - s->asked.above, s->members);
 }
 
 /* REQUEST to the next member. */

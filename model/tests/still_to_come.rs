@@ -116,7 +116,7 @@ fn follow(due: &mut Due, step: &Step, before: &Record, after: &Record, above: us
     }
 }
 
-/// "the numbers returned go from m - 1 down to 0", on the model itself.
+/// From the number of members less one down to 0, on the model itself.
 #[test]
 fn counted_down() {
     let (mut held, mut told) = (0, 0);

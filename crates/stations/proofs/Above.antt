@@ -83,7 +83,7 @@ pub from-all : (q : ℕ) → membersFrom q 0 ≡ countBelow q places
 unfolding howMany
 from-all q = omega (arith, count-split q 0 (omega arith))
 
--- "0 where none is found": there is nothing above 16
+-- where none is found: there is nothing above 16
 pub none-above : (q i : ℕ) → places ≤ lowestFrom q i → membersAbove q (lowestFrom q i) ≡ 0
 none-above q i h = from-end q (suc (lowestFrom q i)) (omega arith)
 
