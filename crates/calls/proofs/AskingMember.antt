@@ -13,6 +13,7 @@ use Rattle.lists.proofs.Broken.{first-later}
 use Rattle.lists.proofs.Tests.{known}
 use Rattle.stations.specs.Sets.{lowestFrom, membersAbove, nextFrom}
 use Rattle.stations.specs.declared.NextMember.{NextMember}
+use Rattle.stations.proofs.Above.{next-member, next-above}
 use Rattle.units.specs.declared.Units.{Units}
 use Rattle.plain.specs.Answer.{Answer, aboveOnly, refused, done, answered}
 use Rattle.plain.specs.Asking.{toCome, askPasses, asking}
@@ -33,7 +34,6 @@ use Rattle.records.specs.declared.Record.{Record}
 use Rattle.records.proofs.Storing.{storePhase, storeUp, phase-stored}
 use Rattle.records.proofs.Viewing.{lane-length, quorum-at}
 use Rattle.calls.specs.Inner.Parts.{askAnswer}
-use Rattle.calls.proofs.GoingOnward.{next-member, next-above}
 use Rattle.calls.proofs.RecordInRange.{table-length}
 
 -- a lane with one message more, and its limit

@@ -11,7 +11,7 @@ use borrow.Author.Tests.{ltb-true, eqb-true, lt-ltb, le-ltb, eq-eqb, ne-eqb}
 use Rattle.lists.proofs.Tests.{and-both, and-left, and-right}
 use Rattle.stations.specs.Sets.{places, lowestFrom, membersAbove, nextFrom}
 use Rattle.stations.specs.declared.NextMember.{NextMember}
-use Rattle.stations.proofs.Above.{from-le}
+use Rattle.stations.proofs.Above.{next-member, next-above}
 use Rattle.stations.proofs.Lowest.{lowest-from}
 use Rattle.stations.proofs.Members.{member-station}
 use Rattle.quorum.specs.Family.{quorum}
@@ -26,19 +26,6 @@ use Rattle.calls.specs.declared.downs.Taking.the-variants.{Asks}
 -- a lowest member of a set of stations below n is one of them
 lowest-below : (n set i : ℕ) → set < 2 ^ n → lowestFrom set i < places → lowestFrom set i < n
 lowest-below n set i small h = member-station n set (lowestFrom set i) small (lowest-from set i .found h .1)
-
--- what the step to the next member answers
-module _ (q i : ℕ) (next : NextMember) (found : next ≡ nextFrom q i) where
-  pub next-member : next .member ≡ lowestFrom q i
-  unfolding nextFrom
-  next-member = ap (λ (x : NextMember). x .member) found
-
-  pub next-above : next .above ≡ membersAbove q (next .member)
-  unfolding nextFrom
-  next-above = ap (λ (x : NextMember). x .above) found ∙ ap (membersAbove q) (sym next-member)
-
-  pub next-few : next .above ≤ places
-  next-few = omega (arith, next-above, from-le q (suc (next .member)))
 
 module _ (table : List ℕ) (q : ℕ) (h : Units) (j set : ℕ) (is : quorum table q ≡ set) (next : NextMember) (found : next ≡ nextFrom set (j + 1)) where
   above : lowestFrom (quorum table q) (suc j) ≡ next .member

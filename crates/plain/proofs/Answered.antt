@@ -16,6 +16,10 @@ module _ (st : State) (x : Returned) (next : State) where
   unfolding answered
   answered-as P r is-done not-done = done-or-as (done x next) (refused st) P r is-done not-done
 
+  -- an answer that says no refusal: there was none
+  pub answered-passed : (r : ℕ) → answered st r x next .refusal ≡ 0 → r ≡ 0
+  answered-passed r = answered-as (λ a. a .refusal ≡ 0 → r ≡ 0) r (λ z y. z) (λ z. z)
+
   -- no test is broken
   pub answered-done : (tests : List Test) → Kept tests → answered st (firstBroken tests) x next ≡ done x next
   unfolding answered

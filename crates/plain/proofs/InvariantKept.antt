@@ -8,29 +8,24 @@ use mathlib.Core.Path.{_≡_, refl}
 use Prim.Native.Nat.{ℕ, _<_}
 use native.Mathlib.Decide.{ℕ-discrete, decLt}
 use native.Mathlib.Omega.{arith}
-use lib.Dec.{ltb}
 use Rattle.lists.specs.At.{at}
-use Rattle.lists.proofs.Changed.{at-same, at-other, at-all}
-use Rattle.lists.proofs.Tests.{known, and-right}
+use Rattle.lists.proofs.Changed.{at-same, at-other}
+use Rattle.lists.proofs.Tests.{known}
 use Rattle.stations.specs.Member.{member}
 use Rattle.quorum.specs.Family.{quorum}
 use Rattle.units.specs.declared.Units.{Units}
 use Rattle.units.proofs.Amounts.{within-none}
 use Rattle.plain.specs.Arbiter.{unitsIn}
 use Rattle.plain.specs.Inner.Passed.{Withdraws}
-use Rattle.plain.specs.InRange.{phaseIn}
 use Rattle.plain.specs.Run.{Call, call, after}
 use Rattle.plain.specs.State.{fresh, State}
 use Rattle.plain.specs.Withdraw.{withdrawing, givenUp}
-use Rattle.plain.specs.declared.Message.{Message}
-use Rattle.plain.specs.declared.Phase.{Phase}
-use Rattle.plain.specs.declared.Phase.the-variants.{Idle, Collecting, Withdrawing}
+use Rattle.plain.specs.declared.Phase.the-variants.{Collecting, Withdrawing}
 use Rattle.plain.proofs.Calls.{each-call}
 use Rattle.plain.proofs.Invariant.{approaches, Invariant, request-keeps, up-keeps, down-keeps, release-keeps}
 use Rattle.plain.proofs.Pairs.{Part, Pair, sends-release, sends-withdraw}
-use Rattle.plain.proofs.Range.{ranged}
 use Rattle.plain.proofs.Runs.{after-keeps}
-use Rattle.plain.proofs.Wants.{share, wants, share-member, share-other, wants-here, wants-below, wants-above, wants-left, wants-others}
+use Rattle.plain.proofs.Wants.{wants, share-member, share-other, wants-here, wants-below, wants-above, wants-left, wants-others}
 use Rattle.plain.proofs.Withdrawing.{withdrawing-here, withdrawing-member, withdrawing-other, withdrawing-above, approached-below}
 
 -- ---- Withdraw

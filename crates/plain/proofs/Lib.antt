@@ -19,6 +19,7 @@ pub mod StaysInRange
 pub mod Invariant
 pub mod InvariantKept
 pub mod Held
+pub mod OwnPhase
 pub mod Withdrawn
 pub mod StillToCome
 pub mod UnderWay

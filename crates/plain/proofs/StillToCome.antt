@@ -10,7 +10,7 @@ use native.Mathlib.Decide.{ℕ-discrete, decLt}
 use native.Mathlib.Omega.{arith}
 use lib.Dec.{eqb, ltb}
 use borrow.Author.Tests.{eq-eqb, ne-eqb, eqb-true, lt-ltb, le-ltb}
-use Rattle.lists.proofs.Changed.{at-same, at-other, at-all}
+use Rattle.lists.proofs.Changed.{at-same}
 use Rattle.lists.proofs.Tests.{known, or-none}
 use Rattle.stations.specs.Sets.{places, countBelow, lowestFrom, membersAbove}
 use Rattle.stations.proofs.Above.{from-lowest, from-none, from-all}
@@ -19,21 +19,23 @@ use Rattle.units.specs.declared.Units.{Units}
 use Rattle.plain.specs.Answer.{Answer, Returned, nothing, leftOnly, done, answered}
 use Rattle.plain.specs.Down.{Taken, onward, taken, takenAt, comes, downRefusal, phaseThen, receivedAs, received, returning, down}
 use Rattle.plain.specs.Lanes.{oldest}
-use Rattle.plain.specs.Release.{releaseRefusal, givenBack, released, held, release}
+use Rattle.plain.specs.Release.{releaseRefusal, released, held, release}
 use Rattle.plain.specs.Request.{requestRefusal, lowest, requested, requestReturns, request}
 use Rattle.plain.specs.Run.{Call, call, after}
 use Rattle.plain.specs.State.{State}
 use Rattle.plain.specs.StillToCome.{isAsking, asksOn, sends, told, downFrom, CountedDown}
-use Rattle.plain.specs.Up.{upRefusal, deliveredOf, delivered, up}
-use Rattle.plain.specs.Withdraw.{withdrawRefusal, givenUp, withdrawn, withdraw}
+use Rattle.plain.specs.Up.{upRefusal, delivered, up}
+use Rattle.plain.specs.Withdraw.{withdrawRefusal, withdrawn, withdraw}
 use Rattle.plain.specs.Withdrawn.{stationOf, asks, asksAgain}
 use Rattle.plain.specs.declared.Message.{Message}
 use Rattle.plain.specs.declared.Phase.{Phase}
 use Rattle.plain.specs.declared.Phase.the-variants.{Idle, Collecting, Holding, Withdrawing}
-use Rattle.plain.proofs.Answered.{answered-as}
+use Rattle.plain.proofs.Answered.{answered-as, answered-passed}
 use Rattle.plain.proofs.Approaching.{made-as, left-as, first-member}
+use Rattle.plain.proofs.OwnPhase.{each-own}
 use Rattle.plain.proofs.Passed.{requests, request-done}
 use Rattle.plain.proofs.Range.{ranged}
+use Rattle.plain.proofs.SameTable.{call-same}
 
 -- ---- "otherwise 0"
 
@@ -135,41 +137,6 @@ module _ (s : ℕ) where
 
     -- ---- each call
 
-    other-asks : (t q : ℕ) (h : Units) → (s ≡ t → ⊥) → (above : ℕ) → Told false above (requested st t q h)
-    unfolding requested Told
-    other-asks t q h d above = (more, refl, rw (at-other (st .phase) t (Collecting q h (lowest st q)) s d) due)
-
-    up-told : (t j : ℕ) (lane : List Message) (above : ℕ) → Told false above (delivered st t j lane)
-    unfolding delivered deliveredOf Told
-    up-told t j [] above = stays above
-    up-told t j (m ∷ rest) above = stays above
-
-    release-told : (t : ℕ) (p : Phase) (above : ℕ) → Told false above (released st t p)
-    unfolding released givenBack Told
-    release-told t Idle above = stays above
-    release-told t (Collecting q h m) above = stays above
-    release-told t (Holding q h) above = (more, refl, at-all (λ p. Due (st .table) p more) (st .phase) t Idle tt s due)
-    release-told t Withdrawing above = stays above
-
-    withdraw-told : (t : ℕ) (p : Phase) (above : ℕ) → Told false above (withdrawn st t p)
-    unfolding withdrawn givenUp Told
-    withdraw-told t Idle above = stays above
-    withdraw-told t (Collecting q h m) above = (more, refl, at-all (λ p. Due (st .table) p more) (st .phase) t Withdrawing tt s due)
-    withdraw-told t (Holding q h) above = stays above
-    withdraw-told t Withdrawing above = stays above
-
-    -- Down of another station, and of s itself
-    other-told : (t j : ℕ) → (s ≡ t → ⊥) → (lane : List Message) (above : ℕ) → Told false above (received st t j lane)
-    unfolding received receivedAs Told
-    other-told t j d [] above = stays above
-    other-told t j d (m ∷ rest) above = go (takenAt st t j m)
-      where
-        go : (x : Taken) → (rest : List ℕ) × (more ≡ rest) × Due (st .table) (phaseThen st t x s) rest
-        go (Taken.asks q h i) = (more, refl, rw (at-other (st .phase) t (Collecting q h i) s d) due)
-        go (Taken.holds q h) = (more, refl, rw (at-other (st .phase) t (Holding q h) s d) due)
-        go Taken.idles = (more, refl, rw (at-other (st .phase) t Idle s d) due)
-        go Taken.drops = (more, refl, due)
-
     own-told : (j : ℕ) (lane : List Message) → Told (oldest (λ m. isAsking (takenAt st s j m)) lane) (returning st s j lane .above) (received st s j lane)
     unfolding received receivedAs returning Told Made
     own-told j [] = stays 0
@@ -183,24 +150,11 @@ module _ (s : ℕ) where
         (λ (e : downRefusal st s j ≡ 0). rw e (own-told j (st .down s j)))
         (λ (d : downRefusal st s j ≡ 0 → ⊥). let some = ne-eqb (downRefusal st s j) 0 d in rw (some, some) (stays 0)))
 
-    answer-told : (r : ℕ) (x : Returned) (next : State) → ((above : ℕ) → Told false above next) → Told false (answered st r x next .above) (answered st r x next .state)
-    answer-told r x next t = answered-as st x next (λ a. Told false (a .above) (a .state)) r (λ z. t (x .above)) (stays 0)
-
     step : (c : Call) → asks s st c ≡ false → Told (asksOn s st c) (call st c .above) (call st c .state)
-    unfolding call request requested up down release withdraw
-    step (Call.Request t q h) e =
-        answered-as st (requestReturns st q) (requested st t q h) (λ a. (eqb t s && eqb (a .refusal) 0) ≡ false → Told false (a .above) (a .state)) (requestRefusal st t q h)
-        (λ z y. other-asks t q h (λ (i : s ≡ t). true≢false (rw (eq-eqb t s (sym i)) at y)) _)
-        (λ y. stays 0)
-        e
-    step (Call.Up t j) e = answer-told (upRefusal st t j) nothing (delivered st t j (st .up t j)) (up-told t j (st .up t j))
-    step (Call.Down t j) e =
-        by-cases (ℕ-discrete s t)
-        (λ (z : s ≡ t). rw (sym z) (own-down j))
-        (λ (d : s ≡ t → ⊥). rw (ne-eqb t s (λ (z : t ≡ s). d (sym z)))
-        (answer-told (downRefusal st t j) (returning st t j (st .down t j)) (received st t j (st .down t j)) (other-told t j d (st .down t j))))
-    step (Call.Release t) e = answer-told (releaseRefusal st t) (leftOnly (held (st .phase t))) (released st t (st .phase t)) (release-told t (st .phase t))
-    step (Call.Withdraw t) e = answer-told (withdrawRefusal st t) nothing (withdrawn st t (st .phase t)) (withdraw-told t (st .phase t))
+    unfolding Told
+    step =
+        each-own s st (λ p. Due (st .table) p more) due (λ c. Told (asksOn s st c) (call st c .above) (call st c .state)) tt tt own-down
+        (λ c e p. rw (e, call-same st c .table) (more, refl, p))
 
 -- ---- lists of calls
 
@@ -235,7 +189,7 @@ module _ (st : State) (s q : ℕ) (h : Units) (accepted : call st (Call.Request 
 
   passed : requestRefusal st s q h ≡ 0
   unfolding call request
-  passed = answered-as st (requestReturns st q) (requested st s q h) (λ a. a .refusal ≡ 0 → requestRefusal st s q h ≡ 0) (requestRefusal st s q h) (λ z y. z) (λ z. z) accepted
+  passed = answered-passed st (requestReturns st q) (requested st s q h) (requestRefusal st s q h) accepted
 
   is-done : call st (Call.Request s q h) ≡ done (requestReturns st q) (requested st s q h)
   unfolding call

@@ -1,15 +1,15 @@
 -- A withdrawn request enters nothing: the calls of a station and what they enter there, from any state.
 -- Assumes nothing.
-use mathlib.Core.Bool.{Bool, true, false, cond, _&&_, true≢false}
+use mathlib.Core.Bool.{Bool, true, false, cond, true≢false}
 use mathlib.Core.List.{List, [], _∷_, _++_}
 use mathlib.Core.Logic.{_⊎_, inl, inr, by-cases, ⊎-elim}
-use mathlib.Core.Path.{_≡_, refl, sym}
+use mathlib.Core.Path.{_≡_, refl}
 use Prim.Native.Nat.{ℕ, suc, _+_}
 use native.Mathlib.Decide.{ℕ-discrete}
 use native.Mathlib.Omega.{arith}
 use lib.Dec.{eqb, ltb}
-use borrow.Author.Tests.{eq-eqb, ne-eqb}
-use Rattle.lists.proofs.Changed.{at-same, at-other, at-all}
+use borrow.Author.Tests.{ne-eqb}
+use Rattle.lists.proofs.Changed.{at-same}
 use Rattle.lists.proofs.Tests.{known, clash, or-none, either}
 use Rattle.stations.specs.Sets.{places, lowestFrom}
 use Rattle.quorum.specs.Family.{quorum}
@@ -18,18 +18,19 @@ use Rattle.units.specs.declared.Units.{Units}
 use Rattle.units.proofs.Amounts.{amount-none}
 use Rattle.plain.specs.Answer.{Returned, nothing, leftOnly, answered}
 use Rattle.plain.specs.Down.{Taken, onward, taken, takenAt, enters, downRefusal, phaseThen, receivedAs, received, returning, down}
-use Rattle.plain.specs.Release.{releaseRefusal, givenBack, released, held, release}
-use Rattle.plain.specs.Request.{requestRefusal, lowest, requested, requestReturns, request}
+use Rattle.plain.specs.Release.{releaseRefusal, released, held, release}
+use Rattle.plain.specs.Request.{requestRefusal, requested, requestReturns, request}
 use Rattle.plain.specs.Run.{Call, call, after}
 use Rattle.plain.specs.State.{State}
-use Rattle.plain.specs.Up.{upRefusal, deliveredOf, delivered, up}
+use Rattle.plain.specs.Up.{upRefusal, delivered, up}
 use Rattle.plain.specs.Withdraw.{isCollecting, withdrawRefusal, givenUp, withdrawn, withdraw}
 use Rattle.plain.specs.Withdrawn.{entersAt, enteredAt, asks, asksAgain}
 use Rattle.plain.specs.declared.Message.{Message}
 use Rattle.plain.specs.declared.Phase.{Phase}
 use Rattle.plain.specs.declared.Phase.the-variants.{Idle, Collecting, Holding, Withdrawing}
-use Rattle.plain.proofs.Answered.{answered-as}
+use Rattle.plain.proofs.Answered.{answered-as, answered-passed}
 use Rattle.plain.proofs.Approaching.{made-as, left-as}
+use Rattle.plain.proofs.OwnPhase.{answer-keeps, each-own}
 use Rattle.plain.proofs.Passed.{withdraws, withdraw-done}
 
 -- ---- one call
@@ -41,67 +42,28 @@ module _ (s : ℕ) where
 
   -- a station that does not collect, and does not ask, does not collect then
   module _ (st : State) (none : collects st ≡ false) where
-    -- whatever message another station takes, or s itself
-    message-stays : (t j : ℕ) (m : Message) → isCollecting (phaseThen st t (takenAt st t j m) s) ≡ false
+    grant-stays : (j : ℕ) (p : Phase) → isCollecting p ≡ false → isCollecting (phaseThen st s (taken (st .table) j p) s) ≡ false
     unfolding taken
-    message-stays t j m = by-cases (ℕ-discrete s t) (λ (e : s ≡ t). rw (sym e) own) (λ (d : s ≡ t → ⊥). other d (takenAt st t j m))
-      where
-        other : (s ≡ t → ⊥) → (x : Taken) → isCollecting (phaseThen st t x s) ≡ false
-        other d (Taken.asks q h i) = rw (at-other (st .phase) t (Collecting q h i) s d) none
-        other d (Taken.holds q h) = rw (at-other (st .phase) t (Holding q h) s d) none
-        other d Taken.idles = rw (at-other (st .phase) t Idle s d) none
-        other d Taken.drops = none
+    grant-stays j Idle e = none
+    grant-stays j (Collecting q h i) e = absurd (true≢false e)
+    grant-stays j (Holding q h) e = none
+    grant-stays j Withdrawing e = none
 
-        grant : (p : Phase) → isCollecting p ≡ false → isCollecting (phaseThen st s (taken (st .table) j p) s) ≡ false
-        grant Idle e = none
-        grant (Collecting q h i) e = absurd (true≢false e)
-        grant (Holding q h) e = none
-        grant Withdrawing e = none
-
-        own : isCollecting (phaseThen st s (takenAt st s j m) s) ≡ false
-        own =
-            made-as (λ x. isCollecting (phaseThen st s x s) ≡ false) (st .table) j (st .phase s) none (grant (st .phase s) none)
-            (left-as (λ x. isCollecting (phaseThen st s x s) ≡ false) (st .phase s) none (λ w. rw (at-same (st .phase) s Idle)))
-            m
-
-    up-stays : (t j : ℕ) (lane : List Message) → collects (delivered st t j lane) ≡ false
-    unfolding delivered deliveredOf
-    up-stays t j [] = none
-    up-stays t j (m ∷ rest) = none
-
-    down-stays : (t j : ℕ) (lane : List Message) → collects (received st t j lane) ≡ false
+    -- whatever message it takes
+    down-stays : (j : ℕ) (lane : List Message) → collects (received st s j lane) ≡ false
     unfolding received receivedAs
-    down-stays t j [] = none
-    down-stays t j (m ∷ rest) = message-stays t j m
-
-    release-stays : (t : ℕ) (p : Phase) → collects (released st t p) ≡ false
-    unfolding released givenBack
-    release-stays t Idle = none
-    release-stays t (Collecting q h m) = none
-    release-stays t (Holding q h) = at-all (λ p. isCollecting p ≡ false) (st .phase) t Idle refl s none
-    release-stays t Withdrawing = none
-
-    withdraw-stays : (t : ℕ) (p : Phase) → collects (withdrawn st t p) ≡ false
-    unfolding withdrawn givenUp
-    withdraw-stays t Idle = none
-    withdraw-stays t (Collecting q h m) = at-all (λ p. isCollecting p ≡ false) (st .phase) t Withdrawing refl s none
-    withdraw-stays t (Holding q h) = none
-    withdraw-stays t Withdrawing = none
-
-    answer-stays : (r : ℕ) (x : Returned) (next : State) → collects next ≡ false → collects (answered st r x next .state) ≡ false
-    answer-stays r x next n = answered-as st x next (λ a. collects (a .state) ≡ false) r (λ z. n) none
+    down-stays j [] = none
+    down-stays j (m ∷ rest) =
+        made-as (λ x. isCollecting (phaseThen st s x s) ≡ false) (st .table) j (st .phase s) none (grant-stays j (st .phase s) none)
+        (left-as (λ x. isCollecting (phaseThen st s x s) ≡ false) (st .phase s) none (λ w. rw (at-same (st .phase) s Idle)))
+        m
 
     stays : (c : Call) → asks s st c ≡ false → collects (call st c .state) ≡ false
-    unfolding call request requested up down release withdraw
-    stays (Call.Request t q h) e =
-        answered-as st (requestReturns st q) (requested st t q h) (λ x. (eqb t s && eqb (x .refusal) 0) ≡ false → collects (x .state) ≡ false) (requestRefusal st t q h)
-        (λ z y. rw (at-other (st .phase) t (Collecting q h (lowest st q)) s (λ (i : s ≡ t). true≢false (rw (eq-eqb t s (sym i)) at y))) none)
-        (λ y. none)
-        e
-    stays (Call.Up t j) e = answer-stays (upRefusal st t j) nothing (delivered st t j (st .up t j)) (up-stays t j (st .up t j))
-    stays (Call.Down t j) e = answer-stays (downRefusal st t j) (returning st t j (st .down t j)) (received st t j (st .down t j)) (down-stays t j (st .down t j))
-    stays (Call.Release t) e = answer-stays (releaseRefusal st t) (leftOnly (held (st .phase t))) (released st t (st .phase t)) (release-stays t (st .phase t))
-    stays (Call.Withdraw t) e = answer-stays (withdrawRefusal st t) nothing (withdrawn st t (st .phase t)) (withdraw-stays t (st .phase t))
+    unfolding call down
+    stays =
+        each-own s st (λ p. isCollecting p ≡ false) none (λ c. collects (call st c .state) ≡ false) refl refl
+        (λ j. answer-keeps s st (λ p. isCollecting p ≡ false) none (downRefusal st s j) (returning st s j (st .down s j)) (received st s j (st .down s j)) (down-stays j (st .down s j)))
+        (λ c e p. p)
 
   module _ (a : Amount) (st : State) where
     -- of what station t enters
@@ -197,7 +159,7 @@ module _ (a : Amount) (s : ℕ) where
   withdraw-stops : (st : State) → call st (Call.Withdraw s) .refusal ≡ 0 → (collects s st ≡ true) × (collects s (call st (Call.Withdraw s) .state) ≡ false)
   unfolding call withdraw withdrawn givenUp
   withdraw-stops st e =
-      let passed = answered-as st nothing (withdrawn st s (st .phase s)) (λ x. x .refusal ≡ 0 → withdrawRefusal st s ≡ 0) (withdrawRefusal st s) (λ z y. z) (λ z. z) e in
+      let passed = answered-passed st nothing (withdrawn st s (st .phase s)) (withdrawRefusal st s) e in
       let (q, h, m, w, room) = withdraws st s passed in
       (rw (w .collecting), rw (withdraw-done st s w room, at-same (st .phase) s Withdrawing))
 

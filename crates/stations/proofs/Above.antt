@@ -106,3 +106,16 @@ module _ (q from i : ℕ) (least : min from places ≤ i) (most : i ≤ places) 
   unfolding nextFrom
   next-is member found above lowest many less =
       ap₂ (λ (m a : ℕ). record { member = m; above = a }) (lowest ∙ same-lowest) (less ∙ above-is found many ∙ ap (membersAbove q) same-lowest)
+
+-- what the step to the next member answers
+module _ (q i : ℕ) (next : NextMember) (found : next ≡ nextFrom q i) where
+  pub next-member : next .member ≡ lowestFrom q i
+  unfolding nextFrom
+  next-member = ap (λ (x : NextMember). x .member) found
+
+  pub next-above : next .above ≡ membersAbove q (next .member)
+  unfolding nextFrom
+  next-above = ap (λ (x : NextMember). x .above) found ∙ ap (membersAbove q) (sym next-member)
+
+  pub next-few : next .above ≤ places
+  next-few = omega (arith, next-above, from-le q (suc (next .member)))

@@ -9,6 +9,7 @@ use borrow.Author.Needs.{needs}
 use borrow.Author.Tests.{not-false, le-leb, lt-leb}
 use Rattle.lists.proofs.Broken.{Kept}
 use Rattle.stations.specs.Sets.{places}
+use Rattle.stations.proofs.Above.{next-member, next-few}
 use Rattle.quorum.specs.Limits.{mostStations, mostQuorums}
 use Rattle.units.specs.Units.{requestIn, unitsOf}
 use Rattle.units.proofs.Numbers.{request-stored, requested-stored}
@@ -21,7 +22,6 @@ use Rattle.records.specs.View.{noStation, view}
 use Rattle.records.specs.declared.Record.{Record}
 use Rattle.records.proofs.Viewing.{phases-at}
 use Rattle.calls.proofs.AskingMember.{request-asks, lowest-station}
-use Rattle.calls.proofs.GoingOnward.{next-member, next-few}
 use Rattle.calls.proofs.RecordInRange.{few, quorums-few, limits, table-length}
 use Rattle.calls.proofs.request.Statement.{statement}
 use Rattle.calls.proofs.request.Tie as tie

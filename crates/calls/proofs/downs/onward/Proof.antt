@@ -4,7 +4,8 @@ use mathlib.Core.Path.{refl, sym}
 use Prim.Native.Nat.{_+_}
 use native.Mathlib.Omega.{arith}
 use borrow.Author.Needs.{needs}
-use Rattle.calls.proofs.GoingOnward.{next-few, onward-holds, onward-asks, asks-within}
+use Rattle.stations.proofs.Above.{next-few}
+use Rattle.calls.proofs.GoingOnward.{onward-holds, onward-asks, asks-within}
 use Rattle.calls.proofs.downs.onward.Statement.{statement}
 use Rattle.calls.proofs.downs.onward.Tie as tie
 
