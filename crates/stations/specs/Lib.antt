@@ -1,2 +1,3 @@
 pub mod Member
 pub mod Sets
+pub mod Sizes

@@ -4,7 +4,5 @@ pub mod Coordinates
 pub mod CubeStations
 pub mod CubeSize
 pub mod CubeArbiter
-pub mod Choosing
-pub mod SetsOfSize
 pub mod WritingSets
 pub mod UniformArbiter

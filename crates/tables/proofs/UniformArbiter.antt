@@ -13,17 +13,17 @@ use lib.ListN.{length}
 use borrow.Author.Tests.{ltb-false}
 use Rattle.lists.proofs.Broken.{passes-kept}
 use Rattle.stations.specs.Sets.{everyone, countBelow}
+use Rattle.stations.specs.Sizes.{setsOf, choose}
+use Rattle.stations.proofs.Choosing.{choose-some}
 use Rattle.stations.proofs.Counts.{count-and, count-everyone, count-none, count-fewer, count-le}
 use Rattle.stations.proofs.Members.{within-and}
+use Rattle.stations.proofs.SetsOfSize.{sets-length, sets-hold, sets-rise}
 use Rattle.quorum.specs.Accepted.{Accepted}
 use Rattle.quorum.specs.Arbiter.{Common, LiesWithin}
 use Rattle.quorum.specs.Family.{quorum, commonWithin, commonPart, Numbers}
 use Rattle.quorum.specs.Limits.{mostStations, mostUnits, mostQuorums}
 use Rattle.quorum.proofs.Promises.{arbiter-accepted, common-or-empty, Limits, kept-limits, up-to}
-use Rattle.tables.specs.Inner.Choose.{choose}
-use Rattle.tables.specs.Uniform.{setsOf, uniformSize, uniformTable, uniformTests, uniformRefusal}
-use Rattle.tables.proofs.Choosing.{choose-some}
-use Rattle.tables.proofs.SetsOfSize.{sets-length, sets-hold, sets-rise}
+use Rattle.tables.specs.Uniform.{uniformSize, uniformTable, uniformTests, uniformRefusal}
 
 -- ---- the size
 

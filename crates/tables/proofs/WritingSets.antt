@@ -9,10 +9,9 @@ use native.Mathlib.Omega.{arith}
 use lib.ListN.{length, set, length-map}
 use lib.Seq.{sets}
 use Rattle.lists.proofs.Joined.{map-append, sets-append}
-use Rattle.tables.specs.Inner.Choose.{choose}
+use Rattle.stations.specs.Sizes.{setsOf, choose}
+use Rattle.stations.proofs.SetsOfSize.{sets-zero, sets-none, sets-split, sets-length}
 use Rattle.tables.specs.Inner.Stored.{stored}
-use Rattle.tables.specs.Uniform.{setsOf}
-use Rattle.tables.proofs.SetsOfSize.{sets-zero, sets-none, sets-split, sets-length}
 
 pub choose-last : (n s : ℕ) → 1 ≤ n → 1 ≤ s → choose n s ≡ choose (n - 1) s + choose (n - 1) (s - 1)
 unfolding choose

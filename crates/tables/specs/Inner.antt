@@ -1,4 +1,3 @@
 -- Definitions that contracts of inner functions and proofs cite, and nothing that a caller is promised.
 pub mod BoundedStations
-pub mod Choose
 pub mod Stored

@@ -1,18 +1,12 @@
 -- The table of all sets of one size.
 use mathlib.Core.Bool.{not}
 use mathlib.Core.List.{List, _∷_}
-use Prim.Native.Nat.{ℕ, _+_, _*_, _/_, _^_}
-use lib.Dec.{eqb}
+use Prim.Native.Nat.{ℕ, _+_, _*_, _/_}
 use lib.ListN.{length}
 use Rattle.lists.specs.Broken.{Test, _when_, firstBroken}
-use Rattle.lists.specs.Counting.{numbersBelow}
-use Rattle.stations.specs.Sets.{countBelow}
+use Rattle.stations.specs.Sizes.{setsOf}
 use Rattle.quorum.specs.Limits.{mostStations, mostUnits, upTo}
 use Rattle.tables.specs.Made.{roomTests}
-
--- all sets of s of the stations below n, by ascending number
-unfoldable pub setsOf : ℕ → ℕ → List ℕ
-setsOf n s = numbersBelow (λ q. eqb (countBelow q n) s) (2 ^ n)
 
 -- "floor(k × n / (k + 1)) + 1 stations"
 unfoldable pub uniformSize : ℕ → ℕ → ℕ

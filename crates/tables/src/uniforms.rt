@@ -3,8 +3,8 @@ ghost use mathlib.Core.Path.{_≡_};
 ghost use Prim.Native.Nat.{_+_, _^_, _≤_};
 ghost use lib.ListN.{length};
 ghost use Rattle.stations.specs.Sets.{places};
+ghost use Rattle.stations.specs.Sizes.{choose};
 ghost use Rattle.quorum.specs.Limits.{mostStations, mostUnits};
-ghost use Rattle.tables.specs.Inner.Choose.{choose};
 ghost use Rattle.tables.specs.Inner.Stored.{stored};
 ghost use Rattle.tables.specs.Uniform.{uniformSize, uniformRefusal};
 

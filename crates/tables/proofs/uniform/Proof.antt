@@ -5,7 +5,7 @@ use native.Mathlib.Omega.{arith}
 use lib.ListN.{length}
 use lib.Pow.{pow-mono}
 use borrow.Author.Needs.{needs}
-use Rattle.tables.specs.Inner.Choose.{choose}
+use Rattle.stations.specs.Sizes.{choose}
 use Rattle.tables.specs.Inner.Stored.{stored}
 use Rattle.tables.specs.Uniform.{uniformTable, uniformSize}
 use Rattle.tables.proofs.Making.{on-refusal, on-table}

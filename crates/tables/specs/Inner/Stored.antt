@@ -2,7 +2,7 @@
 use mathlib.Core.List.{List, map}
 use Prim.Native.Nat.{ℕ, _+_}
 use lib.Seq.{sets}
-use Rattle.tables.specs.Uniform.{setsOf}
+use Rattle.stations.specs.Sizes.{setsOf}
 
 -- a buffer with all sets of s of the stations below n stored in it from the place `at` on, each with the higher stations `above`
 abbrev pub stored : List ℕ → ℕ → ℕ → ℕ → ℕ → List ℕ

@@ -7,9 +7,9 @@ use lib.Pow.{pow-pos}
 use borrow.Author.Needs.{needs}
 use borrow.Fn.Kinds.{In}
 use borrow.Fn.PlainCycle.{Measures, is, falls, and}
+use Rattle.stations.specs.Sizes.{choose}
 use Rattle.stations.proofs.Built.{only-below}
-use Rattle.tables.specs.Inner.Choose.{choose}
-use Rattle.tables.proofs.Choosing.{choose-none, choose-some}
+use Rattle.stations.proofs.Choosing.{choose-none, choose-some}
 use Rattle.tables.proofs.WritingSets.{choose-last, stored-one, stored-none, stored-halves, above-fits}
 use Rattle.tables.proofs.uniforms.+write_sets.{statement}
 use Rattle.tables.proofs.uniforms.+write_sets.Tie.{close}

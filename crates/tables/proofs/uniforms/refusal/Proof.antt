@@ -9,7 +9,7 @@ use Rattle.tables.specs.Uniform.{uniformRefusal}
 use Rattle.tables.proofs.UniformArbiter.{uniform-length, size-le}
 use Rattle.quorum.specs.Limits.{mostStations, mostUnits}
 use Rattle.quorum.proofs.Promises.{up-to}
-use Rattle.tables.specs.Inner.Choose.{choose}
+use Rattle.stations.specs.Sizes.{choose}
 use Rattle.tables.specs.Made.{noRoom}
 use Rattle.tables.proofs.uniforms.refusal.Statement.{statement}
 use Rattle.tables.proofs.uniforms.refusal.Tie as tie

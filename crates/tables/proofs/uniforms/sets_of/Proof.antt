@@ -4,8 +4,9 @@ use mathlib.Core.Path.{_≡_, ap, _∙_}
 use Prim.Native.Nat.{ℕ, _+_, _-_, _*_, _/_, _≤_}
 use native.Mathlib.Omega.{arith}
 use borrow.Author.Needs.{needs}
-use Rattle.tables.proofs.Choosing.{choose-small, choose-next}
-use Rattle.tables.specs.Inner.Choose.{choose}
+use Rattle.stations.specs.Sizes.{choose}
+use Rattle.stations.proofs.Choosing.{choose-small, choose-next}
+use Rattle.quorum.specs.Limits.{mostStations}
 use Rattle.tables.proofs.uniforms.sets_of.Statement.{statement}
 use Rattle.tables.proofs.uniforms.sets_of.Tie as tie
 
@@ -26,7 +27,7 @@ mul-sets : tie.Need-mul-sets Inv-loop μ-loop
 mul-sets c =
     let n = c .before .before .args .n in
     let at = c .before .loop in
-    record { fits = rw (at .inv .1) (omega (arith, choose-small n (at .i) (omega arith))) }
+    record { fits = rw (at .inv .1) (omega (arith, choose-small n (at .i) mostStations (omega arith))) }
 
 add-sets : tie.Need-add-sets Inv-loop μ-loop
 add-sets c = search needs

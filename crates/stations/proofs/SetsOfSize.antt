@@ -11,11 +11,10 @@ use borrow.Author.Tests.{eqb-true, eq-eqb, ne-eqb}
 use Rattle.lists.specs.Counting.{howMany, numbersBelow}
 use Rattle.lists.proofs.Counting.{numbers-add, numbers-same, numbers-none, numbers-hold, numbers-rise, numbers-all}
 use Rattle.lists.proofs.Tests.{eqb-suc}
 use Rattle.stations.specs.Sets.{countBelow}
+use Rattle.stations.specs.Sizes.{setsOf, choose}
 use Rattle.stations.proofs.Built.{count-top, count-under}
-use Rattle.tables.specs.Inner.Choose.{choose}
-use Rattle.tables.specs.Uniform.{setsOf}
-use Rattle.tables.proofs.Choosing.{choose-none}
+use Rattle.stations.proofs.Choosing.{choose-none}
 
 -- twice as many sets: the first half without station n, the second with it
 halves : (n s : ℕ) (more : ℕ → Bool) → ((q : ℕ) → q < 2 ^ n → eqb (suc (countBelow q n)) s ≡ more q)

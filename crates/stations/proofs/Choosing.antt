@@ -6,8 +6,7 @@ use native.Mathlib.Nat.{le-trans, mul-le-mul, mul-div-cancel}
 use native.Mathlib.Numerals.{add-one}
 use native.Mathlib.Omega.{arith}
 use lib.Pow.{pow-pos, pow-mono}
-use Rattle.quorum.specs.Limits.{mostStations}
-use Rattle.tables.specs.Inner.Choose.{choose}
+use Rattle.stations.specs.Sizes.{choose}
 
 pub choose-none : (n s : ℕ) → n < s → choose n s ≡ 0
 unfolding choose
@@ -43,5 +42,5 @@ choose-next n s h =
     ap (λ (x : ℕ). x / (s + 1)) over ∙ mul-div-cancel (choose n (s + 1)) (omega arith)
 
 -- small numbers of small numbers
-pub choose-small : (n s : ℕ) → n ≤ mostStations → choose n s * (n - s) ≤ 2 ^ mostStations * mostStations
-choose-small n s h = let left : n - s ≤ mostStations = omega arith in mul-le-mul (le-trans (choose-le n s) (pow-mono h)) left
+pub choose-small : (n s most : ℕ) → n ≤ most → choose n s * (n - s) ≤ 2 ^ most * most
+choose-small n s most h = let left : n - s ≤ most = omega arith in mul-le-mul (le-trans (choose-le n s) (pow-mono h)) left
