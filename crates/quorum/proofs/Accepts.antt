@@ -17,6 +17,7 @@ use Rattle.quorum.specs.Scratch.{scratchBytes}
 use Rattle.quorum.specs.Width.{lacksCommon}
 use Rattle.quorum.proofs.CommonMember.{common-member}
 use Rattle.quorum.proofs.Lacking.{lacks-iff}
+use Rattle.quorum.proofs.LimitLaws.{Limits, limits-kept}
 use Rattle.quorum.proofs.Minimality.{minimal, minimal-nested}
 use Rattle.quorum.proofs.Refusals.{refusal-limit, refusal-five, refusal-six, refusal-later}
 
@@ -64,6 +65,10 @@ module _ (n k : ℕ) (table : List ℕ) (room : ℕ) where
           not-true-false (nested table) (λ (t : nested table ≡ true).
           let seven : refusal n k table room ≡ 7 = refusal-later n k table room kept enough common ∙ rw t in
           omega arith)
+
+  -- so the limits are kept
+  pub passed-limits : refusal n k table room ≡ 0 → Limits n k table
+  passed-limits e = limits-kept n k table (passed e .0 .limits)
 
   pub passes : Accepted n k table → scratchBytes ≤ room → refusal n k table room ≡ 0
   passes a enough = refusal-later n k table room (a .limits) enough (a .common) ∙ rw (a .not-nested)

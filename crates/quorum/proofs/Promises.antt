@@ -22,9 +22,9 @@ pub use Rattle.quorum.proofs.LimitLaws.{Limits, limits-kept, kept-limit
 -- The common member: where 6 is passed, any quorums, at most k + 1 of them and repeats allowed, have a station in common.
 pub use Rattle.quorum.proofs.CommonMember.{common-member}
 -- An accepted table, and a check that refuses nothing, lent enough scratch: each gives the other. So does a k-arbiter within the limits.
-pub use Rattle.quorum.proofs.Accepts.{passed, passes, arbiter-accepted}
+pub use Rattle.quorum.proofs.Accepts.{passed, passed-limits, passes, arbiter-accepted}
 -- The answer says the refusal that the tests lead to; and how large its numbers can be, those of its family included.
-pub use Rattle.quorum.proofs.Refusals.{answer-refusal}
+pub use Rattle.quorum.proofs.Refusals.{answer-refusal, said-refusal}
 pub use Rattle.quorum.proofs.AnswerBounds.{Bounds, answer-bounds}
 pub use Rattle.quorum.proofs.Sorted.{family-numbers, family-length}
 -- "It never passes n", and a table that lacks a common member has a width of 2 to k + 1.

@@ -3,19 +3,20 @@
 use mathlib.Core.Bool.{true, false, cond}
 use mathlib.Core.List.{List}
 use mathlib.Core.Logic.{⊎-elim}
-use mathlib.Core.Path.{_≡_, sym, _∙_}
+use mathlib.Core.Path.{_≡_, sym, ap, _∙_}
 use Prim.Native.Nat.{ℕ, _≤_, _<_}
 use lib.Dec.{eqb}
 use borrow.Author.Tests.{eqb-true, lt-ltb, le-ltb}
 use Rattle.lists.specs.Broken.{firstBroken}
 use Rattle.lists.proofs.Broken.{broken-at, first-earlier, first-later}
 use Rattle.lists.proofs.Tests.{known}
-use Rattle.quorum.specs.Answer.{answerTo}
+use Rattle.quorum.specs.Answer.{Answer, answerTo, answer, said}
 use Rattle.quorum.specs.Limits.{limitTests, brokenLimit}
 use Rattle.quorum.specs.Nested.{nested}
 use Rattle.quorum.specs.Refusal.{laterTests, refusal}
 use Rattle.quorum.specs.Scratch.{scratchBytes}
 use Rattle.quorum.specs.Width.{lacksCommon}
+use Rattle.quorum.specs.declared.Checked.{Checked}
 use Rattle.quorum.proofs.LimitLaws.{tests-kept}
 
 module _ (n k : ℕ) (table : List ℕ) (room : ℕ) where
@@ -52,3 +53,8 @@ answer-refusal n table r =
     ⊎-elim (λ (e : eqb r 7 ≡ true). rw (d, d′, e) (sym (eqb-true r 7 e))) (λ (d″ : eqb r 7 ≡ false). rw (d, d′, d″)) (known (eqb r 7)))
     (known (eqb r 6)))
     (known (eqb r 0))
+
+-- and so does the code's, where it says that answer
+pub said-refusal : (n k : ℕ) (table : List ℕ) (room : ℕ) (checked : Checked) → said checked ≡ answer n k table room → checked .refusal ≡ refusal n k table room
+unfolding said answer
+said-refusal n k table room checked e = ap (λ (a : Answer). a .refusal) e ∙ answer-refusal n table (refusal n k table room)

@@ -9,10 +9,10 @@ use lib.ListN.{length}
 use borrow.Author.Needs.{needs}
 use borrow.Author.Tests.{le-leb}
 use Rattle.lists.proofs.Tests.{known, and-both}
-use Rattle.quorum.specs.Answer.{Answer, said, answerTo, answer}
+use Rattle.quorum.specs.Answer.{said, answerTo, answer}
 use Rattle.quorum.specs.Limits.{mostUnits, upTo}
 use Rattle.quorum.specs.Refusal.{refusal}
-use Rattle.quorum.proofs.Promises.{passed, Limits, limits-kept, answer-refusal}
+use Rattle.quorum.proofs.Promises.{passed-limits, Limits, said-refusal}
 use Rattle.units.specs.Units.{askedWith, stockOf, storable}
 use Rattle.units.specs.declared.Units.{Units}
 use Rattle.units.proofs.Numbers.{asked-stored, stock-stored}
@@ -58,8 +58,7 @@ module _ (c : tie.After-check) where
 
   -- the refusal that it gives
   refused : c .check .result .refusal ≡ refusal (start .args .n) (askedWith stock) table room
-  unfolding said answer
-  refused = ap (λ (a : Answer). a .refusal) checked ∙ answer-refusal (start .args .n) table (refusal (start .args .n) (askedWith stock) table room)
+  refused = said-refusal (start .args .n) (askedWith stock) table room (c .check .result) checked
 
 returns : tie.Need-returns
 returns c =
@@ -75,7 +74,7 @@ kept : (c : tie.Else1) →
 kept c =
     let a = c .before .before .before .before in
     let st = start a in
-    limits-kept (st .args .n) (askedWith (stock a)) (table a) (passed (st .args .n) (askedWith (stock a)) (table a) (room a) (sym (refused a) ∙ c .if1 .left) .0 .limits)
+    passed-limits (st .args .n) (askedWith (stock a)) (table a) (room a) (sym (refused a) ∙ c .if1 .left)
 
 fresh-requires : tie.Need-fresh-requires
 fresh-requires c κs = (kept c .stations .1, kept c .quorums .1)
