@@ -1,6 +1,7 @@
 pub mod Members
 pub mod Built
 pub mod Counts
+pub mod Ones
 pub mod Choosing
 pub mod SetsOfSize
 pub mod Lowest

@@ -63,15 +63,7 @@ pub fn contains(a: u16, b: u16) -> bool
 pub fn count(q: u16) -> usize
     ensures { λ r. ⌜ r ≡ countBelow q places ⌝ }
 {
-    let mut members: usize = 0;
-    let mut i: usize = 0;
-    while i < PLACES {
-        if has(q, i) {
-            members += 1;
-        }
-        i += 1;
-    }
-    members
+    u16::count_ones(q) as usize
 }
 
 // The lowest member from station `from` on, 16 if there is none, and how many members lie above it. One pass from the highest place down: the
