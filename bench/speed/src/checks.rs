@@ -1,47 +1,23 @@
 //! The check of a table: the static library, the straightforward version and the model.
 
-use crate::clock::Best;
-use crate::report::{aim, heading, line, time};
+use crate::contest::{print_most_ratio, print_slowest, print_times, take_times, Rounds, Timed};
 use crate::straightforward;
 use crate::tables::{self, Case};
 use model::table::{self, Checked, SCRATCH};
-use std::hint::black_box;
 
 const RANDOM_TABLES: u64 = 5_000;
-pub const ROUNDS: usize = 600;
-/// The model takes a hundred times as long on the large tables, so it has fewer rounds.
-pub const MODEL_EVERY: usize = 30;
-const MOST_NANOSECONDS: f64 = 1_000_000.0;
-const MOST_RATIO: f64 = 1.2;
+pub const ROUNDS: Rounds = Rounds {
+    all: 600,
+    model_every: 30,
+};
 
-struct Timed {
-    case: Case,
-    /// The case's name and what is answered.
-    label: String,
-    verified: Best,
-    straightforward: Best,
-    model: Best,
-}
-
-impl Timed {
-    fn new(case: Case) -> Timed {
-        let answer = verified(&case, &mut scratch(SCRATCH));
-        let refusal = match answer.refusal {
-            0 => String::from("accepted"),
-            number => number.to_string(),
-        };
-        Timed {
-            label: format!("{}: {refusal}, width {}", case.name, answer.width),
-            case,
-            verified: Best::new(),
-            straightforward: Best::new(),
-            model: Best::new(),
-        }
-    }
-
-    fn ratio(&self) -> f64 {
-        self.verified.nanoseconds / self.straightforward.nanoseconds
-    }
+fn timed(case: Case) -> Timed {
+    let answer = verified(&case, &mut scratch(SCRATCH));
+    let refusal = match answer.refusal {
+        0 => String::from("accepted"),
+        number => number.to_string(),
+    };
+    Timed::new(case, &format!("{refusal}, width {}", answer.width))
 }
 
 fn verified(case: &Case, scratch: &mut [u8]) -> Checked {
@@ -74,7 +50,7 @@ fn checked(refusal: u8, width: usize, even: bool, family: &[u8]) -> Checked {
 }
 
 /// Some bytes that are not zeros, more than the check uses or too few.
-fn scratch(length: usize) -> Vec<u8> {
+pub fn scratch(length: usize) -> Vec<u8> {
     (0..length).map(|i| (i % 255 + 1) as u8).collect()
 }
 
@@ -106,89 +82,31 @@ fn assert_all_same(cases: &[Timed]) {
     }
 }
 
-/// All cases in turn and the contenders in turn for each, many times over, so that every one has its share of the machine's
-/// quiet moments.
-fn take_times(cases: &mut [Timed]) {
-    let mut scratch = vec![0; SCRATCH];
-    for round in 0..ROUNDS {
-        for timed in cases.iter_mut() {
-            let Case { n, k, quorums, .. } = &timed.case;
-            timed.verified.call(|| {
-                let (n, k, quorums) = black_box((*n, *k, quorums));
-                pafluzeno::check(n, k, quorums, &mut scratch)
-            });
-            timed.straightforward.call(|| {
-                let (n, k, quorums) = black_box((*n, *k, quorums));
-                straightforward::check(n, k, quorums, &mut scratch)
-            });
-            if round % MODEL_EVERY == 0 {
-                timed.model.call(|| {
-                    let (n, k, quorums) = black_box((*n, *k, quorums));
-                    table::check(n, k, quorums, SCRATCH)
-                });
-            }
-        }
-    }
-}
-
-fn print_aims(worst: &[Timed], all: &[Timed]) {
-    println!();
-    let slowest = worst
-        .iter()
-        .max_by(|a, b| a.verified.nanoseconds.total_cmp(&b.verified.nanoseconds))
-        .expect("there are worst cases");
-    let nanoseconds = slowest.verified.nanoseconds;
-    let is = format!("{} ({})", time(nanoseconds), slowest.label);
-    aim(
-        "aim: the slowest check under 1 ms",
-        &is,
-        nanoseconds < MOST_NANOSECONDS,
-    );
-    let differ = |timed: &&Timed| tables::all_differ(&timed.case.quorums);
-    let different: Vec<&Timed> = all.iter().filter(differ).collect();
-    let every: Vec<&Timed> = all.iter().collect();
-    for (what, cases) in [("different quorums", different), ("all tables", every)] {
-        let most = cases
-            .into_iter()
-            .max_by(|a, b| a.ratio().total_cmp(&b.ratio()))
-            .expect("there are cases");
-        let is = format!("{:.2} ({})", most.ratio(), most.label);
-        let name = format!("aim: ratio at most {MOST_RATIO}, {what}");
-        aim(&name, &is, most.ratio() <= MOST_RATIO);
-    }
-}
-
 pub fn compare() {
     let worst = tables::worst();
     let worst_count = worst.len();
     let mut cases: Vec<Timed> = worst
         .into_iter()
         .chain(tables::typical())
-        .map(Timed::new)
+        .map(timed)
         .collect();
     assert_all_same(&cases);
-    take_times(&mut cases);
-    heading("check of a table, a call", "straightforward");
-    for timed in &cases {
-        line(
-            &timed.label,
-            timed.verified.nanoseconds,
-            timed.straightforward.nanoseconds,
-        );
-    }
-    heading("check of a table, a call", "model");
-    for timed in &cases {
-        line(
-            &timed.label,
-            timed.verified.nanoseconds,
-            timed.model.nanoseconds,
-        );
-    }
-    print_aims(&cases[..worst_count], &cases);
+    take_times(
+        &mut cases,
+        &ROUNDS,
+        |case, scratch| pafluzeno::check(case.n, case.k, &case.quorums, scratch),
+        |case, scratch| straightforward::check(case.n, case.k, &case.quorums, scratch),
+        |case| table::check(case.n, case.k, &case.quorums, SCRATCH),
+    );
+    print_times("check of a table, a call", &cases);
+    print_slowest("check", &cases[..worst_count]);
+    let differ = |timed: &&Timed| tables::all_differ(&timed.case.quorums);
+    print_most_ratio("different quorums", cases.iter().filter(differ));
+    print_most_ratio("all tables", cases.iter());
 }
 
 #[test]
 fn all_answers_agree() {
     let cases = tables::worst().into_iter().chain(tables::typical());
-    assert_all_same(&cases.map(Timed::new).collect::<Vec<_>>());
+    assert_all_same(&cases.map(timed).collect::<Vec<_>>());
 }

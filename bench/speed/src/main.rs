@@ -2,6 +2,7 @@
 
 mod checks;
 mod clock;
+mod contest;
 mod journals;
 mod pace;
 mod plain_reader;
@@ -22,8 +23,8 @@ fn compare() {
     println!("Each time is the shortest of so many runs, the two taken in turns:");
     println!(
         "{} of a check ({} of the model's), {} of pace, {} of a journal, {} of reading ({} of the model's).",
-        checks::ROUNDS,
-        checks::ROUNDS / checks::MODEL_EVERY,
+        checks::ROUNDS.all,
+        checks::ROUNDS.of_model(),
         pace::ROUNDS,
         journals::ROUNDS,
         reading::ROUNDS,
