@@ -1,4 +1,5 @@
-/* The calls of a station: the check of a quorum table, ready-made tables, the arbiter of the station's own record, and the journal.
+/* The calls of a station: the check of a quorum table, ready-made tables, the outages that a table survives, the arbiter of the station's own
+ * record, and the journal.
  * They stand in target/staticlib/libpafluzeno.a, which `rt staticlib pafluzeno` proves and writes (x86-64). It needs two functions of C, memcpy
  * and memset, and nothing else; it takes no memory but what it is lent and the stack, and remembers nothing from one call to the next.
  *
@@ -89,6 +90,19 @@ struct pafluzeno_made pafluzeno_uniform(size_t n, size_t k, uint16_t *out, size_
 
 /* a^(k + 1) stations; for each the quorum of those that agree with it in at least one coordinate: refusals 2, 17, 16. */
 struct pafluzeno_made pafluzeno_cube(size_t a, size_t k, uint16_t *out, size_t out_len);
+
+/* How many sets of working stations contain a whole quorum: counts[u] of the sets of exactly u stations, for each u from 0 to n. On an accepted
+ * table `size` is n + 1; on a refusal it is 0, and there are no counts. All places from `size` on are 0. */
+struct pafluzeno_counted {
+    uint8_t refusal;
+    size_t size;
+    uint16_t counts[PAFLUZENO_MOST_STATIONS + 1];
+};
+
+/* The outages that a table survives: refusals 1 to 7, as the check has them, in its order; the scratch is lent and left as there. With d of n
+ * stations out, the table survives in the best case where counts[n - d] is above 0, and in every case where it is the number of all sets of n - d
+ * of n stations. Where it does so with d stations out, it does with fewer. It takes at most 2^n times quorums_len steps besides the check. */
+struct pafluzeno_counted pafluzeno_outages(size_t n, size_t k, const uint16_t *quorums, size_t quorums_len, uint8_t *scratch, size_t scratch_len);
 
 /* A member of a quorum, and how many of its members lie above that one. */
 struct pafluzeno_next {

@@ -12,9 +12,11 @@
 enum { STACK = 1 << 20, PAINT = 165, MOST_TEXT = 65536, STATIONS = PAFLUZENO_MOST_STATIONS, QUORUMS = PAFLUZENO_MOST_QUORUMS };
 
 /* In an order in which each finds what it reads: records, then their readers; the page, then its sums. */
-enum call { NOTHING, CHECK, SINGLETON, UNIFORM, CUBE, NEXT_MEMBER, TELL, WRITE_RECORD, READ_LINE, READ_RECORD, AFTER_RECORD, PAGE, TALLY, CALLS };
-static const char *const names[CALLS] = {"nothing",      "check",     "singleton",   "uniform",      "cube", "next_member", "tell",
-                                         "write_record", "read_line", "read_record", "after_record", "page", "tally"};
+enum call {
+    NOTHING, CHECK, OUTAGES, SINGLETON, UNIFORM, CUBE, NEXT_MEMBER, TELL, WRITE_RECORD, READ_LINE, READ_RECORD, AFTER_RECORD, PAGE, TALLY, CALLS
+};
+static const char *const names[CALLS] = {"nothing", "check",        "outages",   "singleton",   "uniform",      "cube", "next_member",
+                                         "tell",    "write_record", "read_line", "read_record", "after_record", "page", "tally"};
 
 /* All stations but the last wait; with a length of 12, all do. */
 static const struct pafluzeno_arbiter waiting = {
@@ -47,6 +49,10 @@ static bool made(enum call call)
         good = pafluzeno_check(STATIONS, 1, table, QUORUMS, scratch, sizeof scratch).refusal == PAFLUZENO_NO_REFUSAL;
         good = good && pafluzeno_check(STATIONS, 200, table, QUORUMS, scratch, sizeof scratch).refusal == PAFLUZENO_NO_COMMON_MEMBER;
         return good && pafluzeno_check(STATIONS, 1, table + 1, QUORUMS, scratch, sizeof scratch).refusal == PAFLUZENO_NESTED;
+    case OUTAGES: /* counted, no common member, nested */
+        good = pafluzeno_outages(STATIONS, 1, table, QUORUMS, scratch, sizeof scratch).counts[STATIONS] == 1;
+        good = good && pafluzeno_outages(STATIONS, 200, table, QUORUMS, scratch, sizeof scratch).refusal == PAFLUZENO_NO_COMMON_MEMBER;
+        return good && pafluzeno_outages(STATIONS, 1, table + 1, QUORUMS, scratch, sizeof scratch).refusal == PAFLUZENO_NESTED;
     case SINGLETON:
         return pafluzeno_singleton(STATIONS, 11, out, QUORUMS).quorums == 1;
     case UNIFORM: /* the first goes deepest, the second writes the most */

@@ -8,6 +8,7 @@
 
 _Static_assert(sizeof(struct pafluzeno_arbiter) == 37, "the arbiter's record is 37 bytes, without gaps");
 _Static_assert(sizeof(struct pafluzeno_checked) == 48, "the check's answer as the library lays it out");
+_Static_assert(sizeof(struct pafluzeno_counted) == 48, "and that of the outages");
 
 enum { ROOM = 70 };
 
@@ -23,17 +24,30 @@ static void expect(const char *call, unsigned refusal, unsigned wanted)
     }
 }
 
-static void check(const char *call, size_t n, size_t k, const uint16_t *quorums, size_t len, size_t room, unsigned wanted)
+/* What a lent scratch of 7s is to be like afterwards; and then all is 7 again. */
+static void expect_scratch(size_t room)
 {
-    memset(scratch, 7, sizeof scratch);
-    struct pafluzeno_checked c = pafluzeno_check(n, k, quorums, len, scratch, room);
     for (size_t i = 0; i < sizeof scratch; i++)
         if (scratch[i] != (room >= PAFLUZENO_SCRATCH_BYTES && i < PAFLUZENO_SCRATCH_BYTES ? 0 : 7))
             exit(1);
+    memset(scratch, 7, sizeof scratch);
+}
+
+/* The check, and the outages, which are refused as it is. */
+static void check(const char *call, size_t n, size_t k, const uint16_t *quorums, size_t len, size_t room, unsigned wanted)
+{
+    struct pafluzeno_checked c = pafluzeno_check(n, k, quorums, len, scratch, room);
+    expect_scratch(room);
+    struct pafluzeno_counted o = pafluzeno_outages(n, k, quorums, len, scratch, room);
+    expect_scratch(room);
+    if (o.refusal != c.refusal || o.size != (c.refusal == PAFLUZENO_NO_REFUSAL ? n + 1 : 0))
+        exit(1);
     expect(call, c.refusal, wanted);
     printf(" width=%zu even=%u", c.width, c.even);
     for (size_t i = 0; i < c.size; i++)
         printf(i == 0 ? " family=%u" : " %u", c.family[i]);
+    for (size_t u = 0; u < o.size; u++)
+        printf(u == 0 ? " counts=%u" : " %u", o.counts[u]);
     printf("\n");
 }
 
@@ -57,6 +71,7 @@ static void tell(const char *call, struct pafluzeno_arbiter a, struct pafluzeno_
 int main(void)
 {
     const uint16_t p2[] = {3, 5, 6}, p4[] = {1, 2}, p8[] = {1, 3}, eight[] = {8}, many[65] = {1};
+    memset(scratch, 7, sizeof scratch);
     check("P2", 3, 1, p2, 3, 5000, PAFLUZENO_NO_REFUSAL);
     check("n = 13", 13, 1, p2, 3, 5000, PAFLUZENO_BAD_STATIONS);
     check("k = 0", 3, 0, p2, 3, 5000, PAFLUZENO_BAD_STOCK);

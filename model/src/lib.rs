@@ -1,4 +1,4 @@
-//! A plain model of document 01 and of document 02's points 1 to 3, written from the documents alone, for comparison with the
+//! A plain model of document 01 and of document 02's points 1 to 4, written from the documents alone, for comparison with the
 //! verified code. It is meant to be obviously right and nothing else: growable lists, sets written out, and brute force
 //! where that is small.
 //!
@@ -8,6 +8,7 @@ pub mod arbiter;
 pub mod calls;
 pub mod examples;
 pub mod machine;
+pub mod outages;
 pub mod page;
 pub mod random;
 pub mod ready;

@@ -4,6 +4,7 @@ mod checks;
 mod clock;
 mod contest;
 mod journals;
+mod outages;
 mod pace;
 mod plain_reader;
 mod process;
@@ -22,9 +23,11 @@ fn compare() {
     );
     println!("Each time is the shortest of so many runs, the two taken in turns:");
     println!(
-        "{} of a check ({} of the model's), {} of pace, {} of a journal, {} of reading ({} of the model's).",
+        "{} of a check ({} of the model's), {} of outages ({}), {} of pace, {} of a journal, {} of reading ({} of the model's).",
         checks::ROUNDS.all,
         checks::ROUNDS.of_model(),
+        outages::ROUNDS.all,
+        outages::ROUNDS.of_model(),
         pace::ROUNDS,
         journals::ROUNDS,
         reading::ROUNDS,
@@ -32,6 +35,7 @@ fn compare() {
     );
     let folder = Folder::new();
     checks::compare();
+    outages::compare();
     pace::compare(&folder);
     journals::compare(&folder);
     reading::compare();

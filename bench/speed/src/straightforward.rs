@@ -1,5 +1,5 @@
-//! The check of a table as one would write it in plain safe Rust with an eye on speed and no proof in mind: the same
-//! arguments and the same whole answer as `pafluzeno::check`.
+//! The check of a table, and the outages that it survives, as one would write them in plain safe Rust with an eye on speed
+//! and no proof in mind: the same arguments and the same whole answers as `pafluzeno::check` and `pafluzeno::outages`.
 
 use pafluzeno::{Accepted, Refusal, MOST_QUORUMS, MOST_STATIONS, MOST_UNITS, SCRATCH_BYTES};
 
@@ -137,4 +137,22 @@ fn even(stations: usize, quorums: &[u16]) -> bool {
     let share = |station: usize| quorums.iter().filter(|&&q| q >> station & 1 == 1).count();
     let first = share(0);
     (1..stations).all(|station| share(station) == first)
+}
+
+/// For each size the sets of so many stations that contain a whole quorum. Not inlined, as above.
+#[inline(never)]
+pub fn outages(
+    stations: usize,
+    stock: usize,
+    quorums: &[u16],
+    scratch: &mut [u8],
+) -> Result<[u16; MOST_STATIONS + 1], Refusal> {
+    check(stations, stock, quorums, scratch).map_err(|refused| refused.refusal)?;
+    let mut counts = [0; MOST_STATIONS + 1];
+    for set in 0..1u16 << stations {
+        if quorums.iter().any(|&quorum| set & quorum == quorum) {
+            counts[set.count_ones() as usize] += 1;
+        }
+    }
+    Ok(counts)
 }

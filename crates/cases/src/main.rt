@@ -1,4 +1,5 @@
-// Runs the examples of document 01 and prints what each answers, one line an example.
+// Runs the examples of document 01 and prints what each answers, one line an example, and one more for the outages that its table survives.
+mod counts;
 mod makers;
 mod marked;
 mod order;

@@ -1,4 +1,5 @@
-// The ready-made tables: each maker's answer and table, and what the check says of the table.
+// The ready-made tables: each maker's answer and table, what the check says of the table, and the outages that it survives.
+use crate::counts;
 use crate::report;
 use crate::table;
 
@@ -49,10 +50,12 @@ fn print_table(n: usize, k: usize, quorums: &[u16]) {
     if k <= quorum::MOST_UNITS {
         print_check(n, k + 1, quorums);
     }
+    report::text(b"\n");
+    counts::print_line(n, k, quorums);
 }
 
-// The answer, how many entries of the buffer are as they were, and where a table was made its quorums and the
-// check's answers at k and at k + 1.
+// The answer, how many entries of the buffer are as they were, and where a table was made its quorums, the
+// check's answers at k and at k + 1, and the line of its outages.
 pub(crate) fn print_made(made: tables::Made, n: usize, k: usize, out: &[u16]) {
     report::number(b" made=", made.refusal as usize);
     let quorums = made.quorums;

@@ -1,4 +1,5 @@
-// One table through the check.
+// One table through the check, and the outages that it survives.
+use crate::counts;
 use crate::report;
 
 // The bytes of the scratch before a check: none of them is 0.
@@ -67,6 +68,8 @@ fn check_with(scratch: &mut [u8], name: &[u8], n: usize, k: usize, quorums: &[u1
 pub(crate) fn check(name: &[u8], n: usize, k: usize, quorums: &[u16]) {
     let mut scratch = [BEFORE; LONG];
     check_with(&mut scratch, name, n, k, quorums);
+    counts::print_line(n, k, quorums);
+    report::text(b"\n");
 }
 
 // On one byte too few.

@@ -4,19 +4,23 @@ use mathlib.Core.Bool.{Bool, true, false, cond, not, _&&_, and-true, and-false}
 use mathlib.Core.List.{List, [], _∷_, _++_, map, append-nil, append-assoc}
 use mathlib.Core.Logic.{_⊎_, inl, inr, by-cases, ⊎-elim}
 use mathlib.Core.Path.{_≡_, refl, sym, ap, ap₂, _∙_}
-use Prim.Native.Nat.{ℕ, zero, suc, _+_, _*_, _/_, _%_, _<_}
-use native.Mathlib.Decide.{ℕ-discrete}
+use Prim.Native.Nat.{ℕ, zero, suc, _+_, _*_, _/_, _%_, _≤_, _<_}
+use native.Mathlib.Decide.{ℕ-discrete, decLe}
 use native.Mathlib.Nat.{add-zero, add-suc, zero-add, mul-one, mul-zero, zero-mul, suc-mul}
 use native.Mathlib.Numerals.{add-one, one-add}
 use native.Mathlib.Omega.{arith}
 use lib.Arith.{digits-div, digits-mod}
 use lib.Dec.{eqb}
-use lib.ListN.{length, getD, set, length-append, List·getD-append}
-use lib.Seq.{getD-append-seam, getD-at, sets}
+use lib.ListN.{length, getD, set, length-append, length-set, List·getD-append, List·getD-eq-default}
+use lib.Seq.{getD-append-seam, getD-at, getD-set-same, getD-set-other, ext-getD, sets}
 use borrow.Author.Tests.{eq-eqb, ne-eqb}
+use Rattle.lists.specs.At.{at}
 use Rattle.lists.specs.Counting.{howMany, numbersBelow, each}
+use Rattle.lists.specs.Cut.{cut}
 use Rattle.lists.proofs.Below.{below-suc}
-use Rattle.lists.proofs.Tests.{clash}
+use Rattle.lists.proofs.Changed.{at-same, at-other}
+use Rattle.lists.proofs.Cuts.{length-cut, getD-cut}
+use Rattle.lists.proofs.Tests.{known, clash}
 use Rattle.lists.proofs.Joined.{map-append, sets-append}
 
 -- ---- how many
@@ -59,6 +63,51 @@ pub many-none : (f : ℕ → Bool) (n : ℕ) → ((i : ℕ) → i < n → f i �
 unfolding howMany
 many-none f zero h = refl
 many-none f (suc n) h = many-fail f n (h n (omega arith)) ∙ many-none f n (λ i p. h i (omega arith))
+
+-- one that passes, and where some do, one of them
+pub many-some : (f : ℕ → Bool) (n i : ℕ) → i < n → f i ≡ true → 0 < howMany f n
+unfolding howMany
+many-some f zero i h t = absurd (omega arith)
+many-some f (suc n) i h t =
+    by-cases (ℕ-discrete i n)
+    (λ (e : i ≡ n). omega (arith, many-pass f n (ap f (sym e) ∙ t)))
+    (λ (d : i ≡ n → ⊥). omega (arith, many-some f n i (omega arith) t))
+
+pub many-found : (f : ℕ → Bool) (n : ℕ) → 0 < howMany f n → (i : ℕ) × (i < n) × (f i ≡ true)
+unfolding howMany
+many-found f zero h = absurd (omega arith)
+many-found f (suc n) h =
+    ⊎-elim (λ (t : f n ≡ true). (n, omega arith, t))
+    (λ (e : f n ≡ false). let (i, l, t) = many-found f n (omega (arith, many-fail f n e)) in (i, omega arith, t))
+    (known (f n))
+
+-- of two tests of which the second holds wherever the first does: no more, and where they hold of equally many, the first holds wherever the second does
+module _ (f g : ℕ → Bool) (within : (i : ℕ) → f i ≡ true → g i ≡ true) where
+  pub many-within : (n : ℕ) → howMany f n ≤ howMany g n
+  unfolding howMany
+  many-within zero = omega arith
+  many-within (suc n) =
+      ⊎-elim (λ (t : f n ≡ true). omega (arith, many-pass f n t, many-pass g n (within n t), many-within n))
+      (λ (e : f n ≡ false). omega (arith, many-fail f n e, many-within n))
+      (known (f n))
+
+  pub many-all : (n : ℕ) → howMany f n ≡ howMany g n → (i : ℕ) → i < n → g i ≡ true → f i ≡ true
+  unfolding howMany
+  many-all zero same i h t = absurd (omega arith)
+  many-all (suc n) same i h t =
+      ⊎-elim
+      (λ (p : f n ≡ true). below-suc {P = λ j. g j ≡ true → f j ≡ true} n (many-all n (omega (arith, many-pass f n p, many-pass g n (within n p)))) (λ q. p) i h t)
+      (λ (e : f n ≡ false). below-suc {P = λ j. g j ≡ true → f j ≡ true} n (many-all n (omega (arith, many-fail f n e, many-within n))) (λ q. absurd (omega (arith, many-fail f n e, many-pass g n q, many-within n))) i h t)
+      (known (f n))
+
+-- tests that agree but at i, which the second alone holds of
+pub many-but : (f g : ℕ → Bool) (n i : ℕ) → i < n → f i ≡ false → g i ≡ true → ((j : ℕ) → j < n → (j ≡ i → ⊥) → f j ≡ g j) → howMany g n ≡ suc (howMany f n)
+unfolding howMany
+many-but f g zero i h e t same = absurd (omega arith)
+many-but f g (suc n) i h e t same =
+    by-cases (ℕ-discrete i n)
+    (λ (s : i ≡ n). rw (sym (ap f s) ∙ e, sym (ap g s) ∙ t) (omega (arith, many-same f g n (λ j l. same j (omega arith) (λ x. omega arith)))))
+    (λ (d : i ≡ n → ⊥). rw (same n (omega arith) (λ x. d (sym x))) (omega (arith, many-but f g n i (omega arith) e t (λ j l o. same j (omega arith) o))))
 
 -- one number is itself, and all others are not
 pub many-one : (c n : ℕ) → c < n → howMany (eqb c) n ≡ 1
@@ -115,6 +164,16 @@ numbers-add f a (suc b) =
     go : (c : Bool) (xs : List ℕ) → map (λ i. a + i) xs ++ cond c ((a + b) ∷ []) [] ≡ map (λ i. a + i) (xs ++ cond c (b ∷ []) [])
     go true xs = sym (map-append (λ i. a + i) xs (b ∷ []))
     go false xs = sym (map-append (λ i. a + i) xs [])
+
+-- as many as pass
+pub numbers-length : (f : ℕ → Bool) (n : ℕ) → length (numbersBelow f n) ≡ howMany f n
+unfolding numbersBelow howMany
+numbers-length f zero = refl
+numbers-length f (suc n) = length-append (numbersBelow f n) (cond (f n) (n ∷ []) []) ∙ omega (arith, numbers-length f n, last (f n))
+  where
+    last : (b : Bool) → length (cond b (n ∷ []) []) ≡ cond b 1 0
+    last true = refl
+    last false = refl
 
 -- a place of a list to which n may have been added: of the list as it was, or the last, which n has
 Place : List ℕ → ℕ → Bool → ℕ → Type 0
@@ -195,3 +254,35 @@ unfolding each
 each-store g l n =
     let end : 0 + length (each g n) ≡ n = omega (arith, each-length g n) in
     rw (add-one n) (ap (λ (j : ℕ). set (sets l 0 (each g n)) j (g n)) (sym end) ∙ sym (sets-append l 0 (each g n) (g n ∷ [])))
+
+-- values that agree below n
+pub each-same : (f g : ℕ → ℕ) (n : ℕ) → ((i : ℕ) → i < n → f i ≡ g i) → each f n ≡ each g n
+unfolding each
+each-same f g zero h = refl
+each-same f g (suc n) h = ap₂ (λ (xs : List ℕ) (x : ℕ). xs ++ (x ∷ [])) (each-same f g n (λ i p. h i (omega arith))) (h n (omega arith))
+
+-- one value changed
+pub each-set : (g : ℕ → ℕ) (n a x : ℕ) → a < n → set (each g n) a x ≡ each (at g a x) n
+each-set g n a x h =
+    ext-getD 0 (set (each g n) a x) (each (at g a x) n)
+    (simp (length-set, each-length))
+    (λ i p. let q : i < n = simp (length-set, each-length) at p in place i q ∙ sym (each-at (at g a x) n i 0 q))
+  where
+    place : (i : ℕ) → i < n → getD (set (each g n) a x) i 0 ≡ at g a x i
+    place i q =
+        by-cases (ℕ-discrete i a)
+        (λ (e : i ≡ a). rw (e, at-same g a x) (getD-set-same (each g n) a x 0 (omega (arith, each-length g n))))
+        (λ (d : i ≡ a → ⊥). rw (at-other g a x i d) (getD-set-other (each g n) a i x 0 d ∙ each-at g n i 0 q))
+
+-- filled up to k places, where the values from m on are 0
+pub each-filled : (g : ℕ → ℕ) (m k : ℕ) → m ≤ k → ((i : ℕ) → m ≤ i → g i ≡ 0) → each g k ≡ cut 0 k (each g m)
+each-filled g m k h none =
+    ext-getD 0 (each g k) (cut 0 k (each g m))
+    (each-length g k ∙ sym (length-cut 0 k (each g m)))
+    (λ i p. let q : i < k = omega (arith, each-length g k) in each-at g k i 0 q ∙ sym (getD-cut 0 k (each g m) i q ∙ place i))
+  where
+    place : (i : ℕ) → getD (each g m) i 0 ≡ g i
+    place i =
+        by-cases (decLe (suc i) m)
+        (λ (l : suc i ≤ m). each-at g m i 0 l)
+        (λ (l : ¬ (suc i ≤ m)). List·getD-eq-default (each g m) 0 (omega (arith, each-length g m)) ∙ sym (none i (omega arith)))

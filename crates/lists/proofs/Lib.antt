@@ -6,5 +6,6 @@ pub mod Joined
 pub mod Counting
 pub mod Changed
 pub mod Totals
+pub mod Classes
 pub mod Arrays
 pub mod Broken

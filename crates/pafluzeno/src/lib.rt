@@ -3,6 +3,7 @@ ghost use mathlib.Core.Path.{_≡_};
 ghost use Prim.Native.Nat.{_<_};
 ghost use lib.ListN.{length};
 ghost use Rattle.arbiters.specs.Lent.{lentOf};
+ghost use Rattle.outages.specs.Answer.{laid, answer as outagesOf};
 ghost use Rattle.quorum.specs.Answer.{said as checkedSays, answer};
 ghost use Rattle.quorum.specs.Limits.{mostStations};
 ghost use Rattle.quorum.specs.Scratch.{cleaned};
@@ -28,6 +29,7 @@ pub use journal::pafluzeno_read_line;
 pub use journal::pafluzeno_read_record;
 pub use journal::pafluzeno_tally;
 pub use journal::pafluzeno_write_record;
+use outages::Counted;
 use quorum::Checked;
 use records::Arbiter;
 use stations::NextMember;
@@ -90,6 +92,20 @@ pub extern "C" fn pafluzeno_cube(a: usize, k: usize, out: &mut [u16]) -> Made
     ensures written { λ _. ⌜ now (out .exit) ≡ written (cubeRefusal a k (length (now (out .entry)))) (cubeTable a k) (now (out .entry)) ⌝ }
 {
     tables::cube(a, k, out)
+}
+
+// The sets of working stations that contain a whole quorum, counted by their size.
+#[no_mangle]
+pub extern "C" fn pafluzeno_outages(
+    n: usize,
+    k: usize,
+    quorums: &[u16],
+    scratch: &mut [u8],
+) -> Counted
+    ensures answered { λ r. ⌜ r ≡ laid (outagesOf n k (now (quorums .entry)) (length (now (scratch .entry)))) ⌝ }
+    ensures cleaned { λ _. ⌜ now (scratch .exit) ≡ cleaned (now (scratch .entry)) ⌝ }
+{
+    outages::count(n, k, quorums, scratch)
 }
 
 // The next member of a quorum from a station on, 16 if there is none, and how many members lie above it.

@@ -13,7 +13,7 @@ use lib.Dec.{eqb}
 use lib.Pow.{pow-pos, pow-add, high}
 use borrow.Author.Tests.{lt-ltb, le-ltb}
 use Rattle.lists.proofs.Below.{below-suc}
-use Rattle.lists.proofs.Counting.{many-same, many-pass, many-fail}
+use Rattle.lists.proofs.Counting.{many-same, many-add, many-none, many-pass, many-fail}
 use Rattle.lists.specs.Counting.{howMany}
 use Rattle.stations.specs.Member.{member}
 use Rattle.stations.specs.Sets.{countBelow, setOf, only, places}
@@ -120,3 +120,10 @@ count-top n q h =
 
 pub count-under : (n q : ℕ) → q < 2 ^ n → countBelow q (suc n) ≡ countBelow q n
 count-under n q h = many-fail (member q) n (member-below n q n h (omega arith))
+
+-- of a set of stations below n, the stations from n on change nothing
+pub count-within : (n m q : ℕ) → q < 2 ^ n → n ≤ m → countBelow q m ≡ countBelow q n
+count-within n m q h l =
+    let parts : m ≡ n + (m - n) = omega arith in
+    ap (countBelow q) parts ∙ many-add (member q) n (m - n)
+    ∙ omega (arith, many-none (λ i. member q (n + i)) (m - n) (λ i p. member-below n q (n + i) h (omega arith)))

@@ -20,6 +20,12 @@ choose-some n zero h = omega arith
 choose-some zero (suc s) h = absurd (omega arith)
 choose-some (suc n) (suc s) h = omega (arith, choose-some n s (omega arith))
 
+-- all of them in one way
+pub choose-all : (n : ℕ) → choose n n ≡ 1
+unfolding choose
+choose-all zero = refl
+choose-all (suc n) = omega (arith, choose-none n (suc n) (omega arith), choose-all n)
+
 -- no more than there are sets
 pub choose-le : (n s : ℕ) → choose n s ≤ 2 ^ n
 unfolding choose

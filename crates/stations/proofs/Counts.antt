@@ -10,7 +10,8 @@ use native.Mathlib.Numerals.{add-one}
 use native.Mathlib.Omega.{arith}
 use lib.Bits.{bitAnd, and-le-l}
 use Rattle.lists.proofs.Below.{below-suc}
-use Rattle.lists.proofs.Counting.{many-not, many-pass, many-fail, many-none}
+use Rattle.lists.proofs.Counting.{many-not, many-pass, many-fail, many-none, many-some}
+use Rattle.lists.proofs.Tests.{known}
 use Rattle.lists.specs.Counting.{howMany}
 use Rattle.stations.specs.Member.{member}
 use Rattle.stations.specs.Sets.{countBelow, everyone}
@@ -72,6 +73,11 @@ count-and a b (suc n) = rw (member-and a b n) (go (member a n) (member b n) (cou
 -- of everyone, all
 pub count-everyone : (n : ℕ) → countBelow (everyone n) n ≡ n
 count-everyone n = omega (arith, many-not (member (everyone n)) n, many-none (λ i. not (member (everyone n) i)) n (λ i h. rw (member-everyone n i h)))
+
+-- n members of n stations are all of them
+pub count-all : (n q : ℕ) → countBelow q n ≡ n → (i : ℕ) → i < n → member q i ≡ true
+count-all n q all i h =
+    ⊎-elim (λ t. t) (λ e. absurd (omega (arith, many-not (member q) n, many-some (λ j. not (member q j)) n i h (rw e)))) (known (member q i))
 
 -- the empty set has none
 pub count-none : (n : ℕ) → countBelow 0 n ≡ 0

@@ -4,5 +4,6 @@ pub mod Counts
 pub mod Ones
 pub mod Choosing
 pub mod SetsOfSize
+pub mod Neighbours
 pub mod Lowest
 pub mod Above

@@ -2,14 +2,14 @@
 -- Assumes nothing.
 use mathlib.Core.Bool.{Bool, false}
 use mathlib.Core.List.{List, [], _∷_, _++_, map, append-nil}
-use mathlib.Core.Path.{_≡_, refl, ap, ap₂, _∙_}
+use mathlib.Core.Path.{_≡_, refl, sym, ap, ap₂, _∙_}
 use Prim.Native.Nat.{ℕ, zero, suc, _+_, _^_, _<_}
 use native.Mathlib.Omega.{arith}
 use lib.Dec.{eqb}
 use lib.ListN.{length, getD, length-append, length-map}
 use borrow.Author.Tests.{eqb-true, eq-eqb, ne-eqb}
 use Rattle.lists.specs.Counting.{howMany, numbersBelow}
-use Rattle.lists.proofs.Counting.{numbers-add, numbers-same, numbers-none, numbers-hold, numbers-rise, numbers-all}
+use Rattle.lists.proofs.Counting.{numbers-length, numbers-add, numbers-same, numbers-none, numbers-hold, numbers-rise, numbers-all}
 use Rattle.lists.proofs.Tests.{eqb-suc}
 use Rattle.stations.specs.Sets.{countBelow}
 use Rattle.stations.specs.Sizes.{setsOf, choose}
@@ -54,6 +54,10 @@ sets-length (suc n) (suc s) =
     rw (sets-split n s)
     (length-append (setsOf n (suc s)) (map (λ q. 2 ^ n + q) (setsOf n s))
     ∙ ap₂ _+_ (sets-length n (suc s)) (length-map (setsOf n s) (λ q. 2 ^ n + q) ∙ sets-length n s))
+
+pub sets-many : (n s : ℕ) → howMany (λ q. eqb (countBelow q n) s) (2 ^ n) ≡ choose n s
+unfolding setsOf
+sets-many n s = sym (numbers-length (λ q. eqb (countBelow q n) s) (2 ^ n)) ∙ sets-length n s
 
 -- of more stations than there are, no set
 pub sets-none : (n s : ℕ) → n < s → setsOf n s ≡ []

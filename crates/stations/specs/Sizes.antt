@@ -9,7 +9,7 @@ use Rattle.stations.specs.Sets.{countBelow}
 unfoldable pub setsOf : ℕ → ℕ → List ℕ
 setsOf n s = numbersBelow (λ q. eqb (countBelow q n) s) (2 ^ n)
 
--- The number of ways to choose s of n stations, without the last of them or with it: so many such sets there are (law `sets-length`).
+-- The number of ways to choose s of n stations, without the last of them or with it: so many such sets there are (laws `sets-length`, `sets-many`).
 unfoldable pub choose : ℕ → ℕ → ℕ
 choose n zero = 1
 choose zero (suc s) = 0

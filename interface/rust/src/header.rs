@@ -3,7 +3,9 @@
 
 use crate::raw;
 
-pub use raw::{Arrival, Checked, Made, Next, Part, Printed, Read, Reply, Sum, Tallied, Written};
+pub use raw::{
+    Arrival, Checked, Counted, Made, Next, Part, Printed, Read, Reply, Sum, Tallied, Written,
+};
 pub use raw::{RELEASE, REQUEST, WITHDRAW};
 
 pub fn check(n: usize, k: usize, quorums: &[u16], scratch: &mut [u8]) -> Checked {
@@ -37,6 +39,20 @@ pub fn uniform(n: usize, k: usize, out: &mut [u16]) -> Made {
 
 pub fn cube(a: usize, k: usize, out: &mut [u16]) -> Made {
     made(raw::pafluzeno_cube, a, k, out)
+}
+
+pub fn outages(n: usize, k: usize, quorums: &[u16], scratch: &mut [u8]) -> Counted {
+    // SAFETY: as of the check.
+    unsafe {
+        raw::pafluzeno_outages(
+            n,
+            k,
+            quorums.as_ptr(),
+            quorums.len(),
+            scratch.as_mut_ptr(),
+            scratch.len(),
+        )
+    }
 }
 
 pub fn next_member(quorum: u16, from: usize) -> Next {

@@ -1,8 +1,8 @@
-//! The station's calls of `libpafluzeno.a`, safe to call: the check of a quorum table, ready-made tables, the arbiter of a station's own
-//! record, and the journal. What each answers is proved; this crate only passes slices and references on.
+//! The station's calls of `libpafluzeno.a`, safe to call: the check of a quorum table, ready-made tables, the outages that a table survives, the
+//! arbiter of a station's own record, and the journal. What each answers is proved; this crate only passes slices and references on.
 //!
 //! ```
-//! use pafluzeno::{check, next_member, release, request, uniform, withdraw, Arbiter, Refusal, MOST_QUORUMS, SCRATCH_BYTES};
+//! use pafluzeno::{check, next_member, outages, release, request, uniform, withdraw, Arbiter, Refusal, MOST_QUORUMS, SCRATCH_BYTES};
 //! use pafluzeno::{page, read_line, read_record, tally, write_record, Do, Record, PAGE_ROOM};
 //!
 //! // five stations, two positions: a table, and whether it may be used
@@ -15,6 +15,10 @@
 //! let refused = check(5, 4, &table[..quorums], &mut scratch).unwrap_err();
 //! assert_eq!(refused.refusal, Refusal::NoCommonMember);
 //! assert_eq!(refused.family(), [0, 1, 2, 3, 4]);
+//!
+//! // of the sets of three working stations none contains a quorum, of those of four all five do: one outage is survived, whichever it is
+//! let survived = outages(5, 2, &table[..quorums], &mut scratch)?;
+//! assert_eq!(survived.counts(), [0, 0, 0, 0, 5, 1]);
 //!
 //! // a station asks the members of its quorum from the lowest up; of three, one lies above the second: it is at 2 of 3
 //! let first = next_member(0b10110, 0).unwrap();
@@ -133,6 +137,35 @@ pub fn uniform(stations: usize, stock: usize, out: &mut [u16]) -> Result<usize, 
 /// side^(stock + 1) stations; for each the quorum of those that agree with it in at least one coordinate.
 pub fn cube(side: usize, stock: usize, out: &mut [u16]) -> Result<usize, Refusal> {
     written(header::cube(side, stock, out))
+}
+
+/// The sets of working stations that contain a whole quorum, counted by their size.
+#[derive(Clone, Copy, PartialEq, Eq, Debug)]
+pub struct Survived {
+    size: usize,
+    counts: [u16; MOST_STATIONS + 1],
+}
+
+impl Survived {
+    /// For each u from 0 to n the number of sets of exactly u stations that contain a whole quorum: n + 1 numbers.
+    pub fn counts(&self) -> &[u16] {
+        &self.counts[..self.size]
+    }
+}
+
+/// The outages that a table survives, refused as the check refuses it; the scratch is treated as there.
+pub fn outages(
+    stations: usize,
+    stock: usize,
+    quorums: &[u16],
+    scratch: &mut [u8],
+) -> Result<Survived, Refusal> {
+    let counted = header::outages(stations, stock, quorums, scratch);
+    let survived = Survived {
+        size: counted.size,
+        counts: counted.counts,
+    };
+    Refusal::from_number(counted.refusal).map_or(Ok(survived), Err)
 }
 
 /// The next member of a quorum from a station on, and how many members lie above it. A station that collects asks the next from 0 on, and after the

@@ -26,6 +26,13 @@ pub struct Made {
     pub quorums: usize,
 }
 
+#[repr(C)]
+pub struct Counted {
+    pub refusal: u8,
+    pub size: usize,
+    pub counts: [u16; MOST_STATIONS + 1],
+}
+
 /// A member of a quorum, and how many of its members lie above that one.
 #[derive(Clone, Copy, PartialEq, Eq, Debug)]
 #[repr(C)]
@@ -146,6 +153,14 @@ extern "C" {
     pub fn pafluzeno_singleton(n: usize, station: usize, out: *mut u16, out_len: usize) -> Made;
     pub fn pafluzeno_uniform(n: usize, k: usize, out: *mut u16, out_len: usize) -> Made;
     pub fn pafluzeno_cube(a: usize, k: usize, out: *mut u16, out_len: usize) -> Made;
+    pub fn pafluzeno_outages(
+        n: usize,
+        k: usize,
+        quorums: *const u16,
+        quorums_len: usize,
+        scratch: *mut u8,
+        scratch_len: usize,
+    ) -> Counted;
     pub fn pafluzeno_next_member(quorum: u16, from: usize) -> Next;
     pub fn pafluzeno_tell(arbiter: &mut Arbiter, message: Arrival) -> Reply;
     pub fn pafluzeno_read_line(

@@ -1,5 +1,7 @@
-//! The examples of the program `cases`: tables through the check, and ready-made tables. One line an example.
+//! The examples of the program `cases`: tables through the check, and ready-made tables. One line an example, and one more
+//! for the outages that its table survives.
 
+use crate::outages::outages;
 use crate::ready::{cube, singleton, uniform, write, Made};
 use crate::table::{check, members, scratch_after, Checked, MOST_STATIONS, SCRATCH};
 
@@ -94,16 +96,30 @@ fn answer(checked: &Checked) -> String {
     line
 }
 
-fn table_line(table: &Table) -> String {
+/// "P2 gives 0, 0, 3, 1."
+fn outages_line(n: usize, k: usize, quorums: &[u16]) -> String {
+    let answer = outages(n, k, quorums, SCRATCH);
+    let mut line = format!("n={n} k={k} outages={} counts", answer.refusal);
+    for count in answer.counts {
+        line += &format!(" {count}");
+    }
+    line
+}
+
+fn table_lines(table: &Table) -> String {
     let &(name, n, k, quorums, scratch) = table;
     let checked = check(n, k, quorums, scratch);
     let after = scratch_after(&vec![BYTE_BEFORE; scratch]);
     let zeros = after.iter().filter(|&&b| b == 0).count();
     let kept = after.iter().filter(|&&b| b == BYTE_BEFORE).count();
-    format!("{name}{} zeros={zeros} kept={kept}\n", answer(&checked))
+    let line = format!("{name}{} zeros={zeros} kept={kept}\n", answer(&checked));
+    match scratch {
+        0..SCRATCH => line,
+        _ => line + &outages_line(n, k, quorums) + "\n",
+    }
 }
 
-/// What the maker answers, what is in the buffer afterwards, and the check of the table at k and k + 1.
+/// What the maker answers, what is in the buffer afterwards, the check of the table at k and k + 1, and a line of its outages.
 fn made_line(made: &Made, room: usize, n: usize, k: usize) -> String {
     let mut out = vec![ENTRY_BEFORE; room];
     let (refusal, count) = write(made.clone(), &mut out);
@@ -117,6 +133,7 @@ fn made_line(made: &Made, room: usize, n: usize, k: usize) -> String {
             let checked = check(n, stock, quorums, SCRATCH);
             line += &format!(" | k={stock}{}", answer(&checked));
         }
+        line += &format!("\n{}", outages_line(n, k, quorums));
     }
     line + "\n"
 }
@@ -170,7 +187,7 @@ fn all_lines() -> String {
 }
 
 pub fn output() -> String {
-    let mut lines: String = TABLES.iter().map(table_line).collect();
+    let mut lines: String = TABLES.iter().map(table_lines).collect();
     lines += &p10();
     for (name, maker, room) in MADE {
         lines += &format!("{name}{}", maker_line(maker, room));

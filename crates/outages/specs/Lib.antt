@@ -1,0 +1,2 @@
+pub mod Outages
+pub mod Answer
