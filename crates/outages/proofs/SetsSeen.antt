@@ -9,7 +9,7 @@ use lib.ListN.{getD, replicate, set}
 use Rattle.lists.specs.Counting.{howMany, each}
 use Rattle.lists.proofs.Classes.{ofValue, values-pass, values-fail}
 use Rattle.lists.proofs.Counting.{each-at, many-not}
-use Rattle.stations.specs.Sets.{countBelow, places}
+use Rattle.stations.specs.Sets.{countBelow, size, places}
 use Rattle.stations.proofs.Built.{count-within}
 use Rattle.stations.proofs.Counts.{count-le}
 use Rattle.quorum.specs.Limits.{mostStations}
@@ -34,7 +34,7 @@ module _ (n : ℕ) (table : List ℕ) (counts : List ℕ) (s : ℕ) (so-far : co
   pub seen-fail : works table s ≡ false → counts ≡ countsBelow n table (s + 1)
   seen-fail e = so-far ∙ values-fail (λ t. countBelow t n) (works table) s sizes e
 
-  module _ (few : n ≤ mostStations) (below : s < 2 ^ n) (members : ℕ) (is : members ≡ countBelow s places) where
+  module _ (few : n ≤ mostStations) (below : s < 2 ^ n) (members : ℕ) (is : members ≡ size s) where
     size-is : members ≡ countBelow s n
     size-is = is ∙ count-within n places s below (omega arith)
 

@@ -12,13 +12,13 @@ use borrow.Author.Tests.{le-leb, lt-leb}
 use Rattle.lists.proofs.Counting.{many-same, many-add, many-none, many-not}
 use Rattle.lists.specs.Counting.{howMany}
 use Rattle.stations.specs.Member.{member}
-use Rattle.stations.specs.Sets.{places, countBelow, lowestAmong, lowestFrom, membersFrom, membersAbove, nextFrom}
+use Rattle.stations.specs.Sets.{places, countBelow, size, lowestAmong, lowestFrom, membersFrom, membersAbove, nextFrom}
 use Rattle.stations.specs.declared.NextMember.{NextMember}
 use Rattle.stations.proofs.Counts.{count-member, count-other}
 use Rattle.stations.proofs.Lowest.{lowest-end}
 
 -- members below a station, and those from it on
-pub count-split : (q i : ℕ) → i ≤ places → countBelow q i + membersFrom q i ≡ countBelow q places
+pub count-split : (q i : ℕ) → i ≤ places → countBelow q i + membersFrom q i ≡ size q
 unfolding membersFrom
 count-split q i h =
     let more : ℕ = places - i in
@@ -79,7 +79,7 @@ pub from-none : (q i : ℕ) → places ≤ lowestFrom q i → membersFrom q i �
 from-none q i h = leads q i .1 h
 
 -- from station 0 on, all
-pub from-all : (q : ℕ) → membersFrom q 0 ≡ countBelow q places
+pub from-all : (q : ℕ) → membersFrom q 0 ≡ size q
 unfolding howMany
 from-all q = omega (arith, count-split q 0 (omega arith))
 

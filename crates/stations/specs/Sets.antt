@@ -28,6 +28,10 @@ contains a b = eqb (bitAnd a b) b
 abbrev pub countBelow : ℕ → ℕ → ℕ
 countBelow q n = howMany (member q) n
 
+-- the size of q: the number of its members
+abbrev pub size : ℕ → ℕ
+size q = countBelow q places
+
 -- the set of the stations below n that f holds of
 unfoldable pub setOf : (ℕ → Bool) → ℕ → ℕ
 setOf f zero = 0

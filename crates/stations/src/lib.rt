@@ -3,7 +3,7 @@ ghost use mathlib.Core.Path.{_≡_};
 ghost use Prim.Native.Nat.{min};
 ghost use lib.Bits.{bitAnd};
 ghost use Rattle.stations.specs.Member.{member};
-ghost use Rattle.stations.specs.Sets.{everyone as allOf, only as onlyOf, contains as containsAll, countBelow, places, nextFrom};
+ghost use Rattle.stations.specs.Sets.{everyone as allOf, only as onlyOf, contains as containsAll, size, places, nextFrom};
 
 // A mask has places for the stations 0 to 15.
 pub const PLACES: usize = 16;
@@ -61,7 +61,7 @@ pub fn contains(a: u16, b: u16) -> bool
 
 // The number of members.
 pub fn count(q: u16) -> usize
-    ensures { λ r. ⌜ r ≡ countBelow q places ⌝ }
+    ensures { λ r. ⌜ r ≡ size q ⌝ }
 {
     u16::count_ones(q) as usize
 }
