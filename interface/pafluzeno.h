@@ -57,9 +57,10 @@ enum pafluzeno_refusal {
 };
 
 /* What the check answers. On an accepted table and on refusals 6 and 7 width is the size of the smallest family of quorums without a common
- * station, 0 if there is none; on refusals 1 to 5 it is 0 and says nothing. On an accepted table even is 1 where every station is in the same
- * number of quorums, and 0 where not; on every refusal it is 0 and says nothing. On refusal 6 the first `size` numbers of `family` name the first
- * smallest family without a common station; otherwise size is 0. What lies in `family` beyond `size` is not part of the answer. */
+ * station, 0 if there is none; on refusals 1 to 5 it is 0 and says nothing. On an accepted table and on refusal 6 even is 1 where every station is in
+ * the same number of quorums and every quorum has the same number of members, so that every request costs the same number of messages, and 0 where
+ * not; on all other refusals it is 0 and says nothing. On refusal 6 the first `size` numbers of `family` name the first smallest family without a
+ * common station; otherwise size is 0. What lies in `family` beyond `size` is not part of the answer. */
 struct pafluzeno_checked {
     uint8_t refusal;
     size_t width;

@@ -71,8 +71,10 @@ static void tell(const char *call, struct pafluzeno_arbiter a, struct pafluzeno_
 int main(void)
 {
     const uint16_t p2[] = {3, 5, 6}, p4[] = {1, 2}, p8[] = {1, 3}, eight[] = {8}, many[65] = {1};
+    const uint16_t two_sizes[] = {7, 28, 49, 42, 54, 45, 27};
     memset(scratch, 7, sizeof scratch);
     check("P2", 3, 1, p2, 3, 5000, PAFLUZENO_NO_REFUSAL);
+    check("two sizes", 6, 1, two_sizes, 7, 5000, PAFLUZENO_NO_REFUSAL);
     check("n = 13", 13, 1, p2, 3, 5000, PAFLUZENO_BAD_STATIONS);
     check("k = 0", 3, 0, p2, 3, 5000, PAFLUZENO_BAD_STOCK);
     check("an empty table", 3, 1, p2, 0, 5000, PAFLUZENO_BAD_LENGTH);

@@ -72,6 +72,23 @@ pub fn large_enough(rng: &mut Rng, n: usize, k: usize, count: usize) -> Vec<u16>
     (0..count).map(|_| of_size(rng, n, size)).collect()
 }
 
+/// One set or two, and all that a turn of the circle of n stations makes of them, each once: all stations belong to equally
+/// many.
+pub fn turned(rng: &mut Rng, n: usize) -> Vec<u16> {
+    let chance = rng.between(30, 90);
+    let mut quorums = Vec::new();
+    for _ in 0..rng.between(1, 2) {
+        let set = members(quorum(rng, n, chance));
+        for by in 0..n {
+            let turn = set.iter().map(|i| 2u16.pow(((i + by) % n) as u32)).sum();
+            if !quorums.contains(&turn) {
+                quorums.push(turn);
+            }
+        }
+    }
+    quorums
+}
+
 /// Without the entries that contain or equal another that stays.
 pub fn without_nesting(quorums: &[u16]) -> Vec<u16> {
     let mut kept: Vec<u16> = Vec::new();

@@ -46,12 +46,24 @@ pub fn nested(quorums: &[u16]) -> bool {
     })
 }
 
-/// "Even is 1 when all stations belong to equally many quorums, else 0."
-pub fn even(n: usize, quorums: &[u16]) -> bool {
+/// "all stations belong to equally many quorums".
+pub fn equal_shares(n: usize, quorums: &[u16]) -> bool {
     let shares: Vec<usize> = (0..n)
         .map(|i| quorums.iter().filter(|&&q| is_member(q, i)).count())
         .collect();
     shares.iter().all(|&share| share == shares[0])
+}
+
+/// "all quorums have equal size".
+pub fn equal_sizes(quorums: &[u16]) -> bool {
+    let sizes: Vec<usize> = quorums.iter().map(|&q| members(q).len()).collect();
+    sizes.iter().all(|&size| size == sizes[0])
+}
+
+/// "On an accepted table and on 6, even is now 1 exactly when all stations belong to equally many quorums and all quorums
+/// have equal size".
+pub fn even(n: usize, quorums: &[u16]) -> bool {
+    equal_shares(n, quorums) && equal_sizes(quorums)
 }
 
 /// Refusals 1 to 4, or 0: what the plain machine asks of a table.
@@ -103,6 +115,7 @@ pub fn check(n: usize, k: usize, quorums: &[u16], scratch: usize) -> Checked {
     let width = family.len();
     if lacks_common_member(width, k) {
         return Checked {
+            even: even(n, quorums),
             family,
             ..answer(6, width)
         };

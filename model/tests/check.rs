@@ -5,7 +5,7 @@ mod tables {
 }
 
 use model::rng::Rng;
-use model::table::{check, even, Checked};
+use model::table::{check, equal_shares, equal_sizes, even, Checked};
 use pafluzeno::header;
 use std::collections::BTreeMap;
 use tables::drawn::{self, generate, Case};
@@ -26,7 +26,7 @@ fn by_library(case: &Case, scratch: &mut [u8]) -> Checked {
     }
 }
 
-/// The wrapper's. A refused one has no even.
+/// The wrapper's.
 fn by_wrapper(case: &Case, scratch: &mut [u8]) -> Checked {
     match pafluzeno::check(case.n, case.k, &case.quorums, scratch) {
         Ok(accepted) => Checked {
@@ -38,7 +38,7 @@ fn by_wrapper(case: &Case, scratch: &mut [u8]) -> Checked {
         Err(refused) => Checked {
             refusal: refused.refusal.number().into(),
             width: refused.width,
-            even: false,
+            even: refused.even,
             family: refused.family().iter().map(|&q| q.into()).collect(),
         },
     }
@@ -61,10 +61,11 @@ fn compare_half(first: u64) {
         if matches!(answer.refusal, 0 | 6 | 7) {
             *widths.entry((answer.refusal, answer.width)).or_insert(0) += 1;
         }
-        // Of 5, 6 and 7 too: there even is 0, whatever the stations belong to.
+        // In either sense, both or none. Of 5 and 7 too: there even is 0, whatever the table.
         if matches!(answer.refusal, 0 | 5 | 6 | 7) {
-            let equally = even(case.n, &case.quorums);
-            *evens.entry((answer.refusal, equally)).or_insert(0) += 1;
+            let shares = equal_shares(case.n, &case.quorums);
+            let sizes = equal_sizes(&case.quorums);
+            *evens.entry((answer.refusal, shares, sizes)).or_insert(0) += 1;
         }
     }
     let seen = |key| refusals.get(&key).copied().unwrap_or(0);
@@ -86,8 +87,8 @@ fn compare_half(first: u64) {
     }
     let nested_and_wide: usize = (1..=12).map(|width| of_width(width)[2]).sum();
     assert!(nested_and_wide >= 300, "widths {widths:?}");
-    assert!(evens.len() == 8, "even {evens:?}");
-    assert!(evens.values().all(|&seen| seen >= 300), "even {evens:?}");
+    assert!(evens.len() == 16, "even {evens:?}");
+    assert!(evens.values().all(|&seen| seen >= 30), "even {evens:?}");
 }
 
 #[test]
@@ -100,39 +101,49 @@ fn second_half() {
     compare_half(HALF);
 }
 
-/// Worked out by hand: n, k, quorums and bytes of scratch, then refusal and width. None is even, though in the last two
-/// all stations belong to equally many quorums.
+/// Worked out by hand: n, k, quorums and bytes of scratch, then refusal, width, even and family. Of the last four the first two
+/// have equal shares and two sizes, one of them point 5's of document 02, the third equal sizes and unequal shares, and the
+/// fourth is even but for 7.
 #[test]
 fn by_hand() {
+    type Row<'a> = (
+        (usize, usize, &'a [u16], usize),
+        (usize, usize, bool, &'a [usize]),
+    );
     let mut too_many = [7; 65];
     too_many[0] = 8;
-    let rows: [(usize, usize, &[u16], usize, usize, usize); 8] = [
-        (13, 0, &[1], 4096, 1, 0),
-        (1, 201, &[], 4096, 2, 0),
-        (3, 1, &too_many, 4096, 3, 0),
-        (3, 1, &[8], 4095, 4, 0),
-        (2, 5, &[1, 2], 4095, 5, 0),
-        (2, 5, &[1, 2, 3], 4096, 6, 2),
-        (3, 1, &[3, 5, 6, 7], 4096, 7, 3),
-        (1, 1, &[1, 1], 4096, 7, 0),
+    let rows: [Row; 11] = [
+        ((13, 0, &[1], 4096), (1, 0, false, &[])),
+        ((1, 201, &[], 4096), (2, 0, false, &[])),
+        ((3, 1, &too_many, 4096), (3, 0, false, &[])),
+        ((3, 1, &[8], 4095), (4, 0, false, &[])),
+        ((2, 5, &[1, 2], 4095), (5, 0, false, &[])),
+        ((2, 5, &[1, 2, 3], 4096), (6, 2, false, &[0, 1])),
+        ((3, 2, &[3, 5, 6], 4096), (6, 3, true, &[0, 1, 2])),
+        ((3, 1, &[3, 5, 6, 7], 4096), (7, 3, false, &[])),
+        (
+            (6, 1, &[7, 28, 49, 42, 54, 45, 27], 4096),
+            (0, 3, false, &[]),
+        ),
+        ((3, 1, &[3, 5], 4096), (0, 0, false, &[])),
+        ((1, 1, &[1, 1], 4096), (7, 0, false, &[])),
     ];
-    for (n, k, quorums, scratch, refusal, width) in rows {
+    for ((n, k, quorums, scratch), (refusal, width, even, family)) in rows {
         let case = Case {
             n,
             k,
             quorums: quorums.to_vec(),
             scratch: vec![1; scratch],
         };
-        let family = if refusal == 6 { vec![0, 1] } else { vec![] };
         let expected = Checked {
             refusal,
             width,
-            even: false,
-            family,
+            even,
+            family: family.to_vec(),
         };
         assert_eq!(compare(0, &case), expected, "{quorums:?}");
     }
-    assert!(even(3, &[3, 5, 6, 7]) && even(1, &[1, 1]));
+    assert!(equal_shares(3, &[3, 5, 6, 7]) && even(1, &[1, 1]));
 }
 
 /// Every table of up to three quorums of up to four stations, at a stock of 1 to 4.

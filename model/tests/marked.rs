@@ -17,11 +17,13 @@ fn accepted(n: usize, k: usize, quorums: &[u16], width: usize) {
     assert_eq!(checked.family, [0; 0]);
 }
 
-fn refused(n: usize, k: usize, quorums: &[u16], refusal: usize, width: usize, family: &[usize]) {
+/// Refusal, width, even and family.
+fn refused(n: usize, k: usize, quorums: &[u16], wanted: (usize, usize, bool, &[usize])) {
+    let (refusal, width, even, family) = wanted;
     let expected = Checked {
         refusal,
         width,
-        even: false,
+        even,
         family: family.to_vec(),
     };
     assert_eq!(answer(n, k, quorums), expected, "{quorums:?}");
@@ -31,13 +33,13 @@ fn refused(n: usize, k: usize, quorums: &[u16], refusal: usize, width: usize, fa
 fn p1_to_p9() {
     accepted(1, 1, &[1], 0);
     accepted(3, 1, &[3, 5, 6], 3);
-    refused(3, 2, &[3, 5, 6], 6, 3, &[0, 1, 2]);
-    refused(2, 5, &[1, 2], 6, 2, &[0, 1]);
+    refused(3, 2, &[3, 5, 6], (6, 3, true, &[0, 1, 2]));
+    refused(2, 5, &[1, 2], (6, 2, true, &[0, 1]));
     accepted(4, 2, &[7, 11, 13, 14], 4);
-    refused(4, 3, &[7, 11, 13, 14], 6, 4, &[0, 1, 2, 3]);
-    refused(4, 2, &[3, 12, 5, 10], 6, 2, &[0, 1]);
-    refused(2, 1, &[1, 3], 7, 0, &[]);
-    refused(2, 1, &[1, 2, 3], 6, 2, &[0, 1]);
+    refused(4, 3, &[7, 11, 13, 14], (6, 4, true, &[0, 1, 2, 3]));
+    refused(4, 2, &[3, 12, 5, 10], (6, 2, true, &[0, 1]));
+    refused(2, 1, &[1, 3], (7, 0, false, &[]));
+    refused(2, 1, &[1, 2, 3], (6, 2, false, &[0, 1]));
 }
 
 #[test]

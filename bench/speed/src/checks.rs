@@ -25,7 +25,7 @@ fn verified(case: &Case, scratch: &mut [u8]) -> Checked {
         Ok(accepted) => checked(0, accepted.width, accepted.even, &[]),
         Err(refused) => {
             let number = refused.refusal.number();
-            checked(number, refused.width, false, refused.family())
+            checked(number, refused.width, refused.even, refused.family())
         }
     }
 }
@@ -35,7 +35,7 @@ fn straightforward(case: &Case, scratch: &mut [u8]) -> Checked {
         Ok(accepted) => checked(0, accepted.width, accepted.even, &[]),
         Err(refused) => {
             let number = refused.refusal.number();
-            checked(number, refused.width, false, refused.family())
+            checked(number, refused.width, refused.even, refused.family())
         }
     }
 }

@@ -10,6 +10,7 @@ const NEVER: u8 = u8::MAX;
 pub struct Refused {
     pub refusal: Refusal,
     pub width: usize,
+    pub even: bool,
     size: usize,
     family: [u8; MOST_STATIONS],
 }
@@ -19,6 +20,7 @@ impl Refused {
         Refused {
             refusal,
             width,
+            even: false,
             size: 0,
             family: [0; MOST_STATIONS],
         }
@@ -78,7 +80,10 @@ fn judge(
         size => usize::from(size),
     };
     if (2..=stock + 1).contains(&width) {
-        return Err(first_family(all, width, quorums, least));
+        return Err(Refused {
+            even: even(stations, quorums),
+            ..first_family(all, width, quorums, least)
+        });
     }
     if nested(quorums) {
         return Err(Refused::new(Refusal::Nested, width));
@@ -132,8 +137,12 @@ fn nested(quorums: &[u16]) -> bool {
     })
 }
 
-/// All stations belong to equally many.
+/// All have equal size, and all stations belong to equally many.
 fn even(stations: usize, quorums: &[u16]) -> bool {
+    let size = quorums[0].count_ones();
+    if quorums.iter().any(|quorum| quorum.count_ones() != size) {
+        return false;
+    }
     let share = |station: usize| quorums.iter().filter(|&&q| q >> station & 1 == 1).count();
     let first = share(0);
     (1..stations).all(|station| share(station) == first)

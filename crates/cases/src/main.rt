@@ -1,5 +1,6 @@
-// Runs the examples of document 01 and prints what each answers, one line an example, and one more for the outages that its table survives.
+// Runs the examples of documents 01 and 02 that are tables and prints what each answers, one line an example, and one more for the outages that its table survives.
 mod counts;
+mod even;
 mod makers;
 mod marked;
 mod order;
@@ -11,6 +12,7 @@ mod table;
 fn main() {
     marked::tables();
     refusals::tables();
+    even::tables();
     order::tables();
     makers::tables();
     ready::tables();

@@ -15,7 +15,7 @@ fn five_to_seven() {
     table::check(b"refusal 7", 2, 1, &[1, 3]);
 }
 
-// A nested table has its width, and is not even, though here all stations belong to equally many quorums.
+// A nested table has its width, and is not even, though in both all stations belong to equally many quorums, and the second has one size.
 fn nested() {
     table::check(b"nested 3 5 6 7", 3, 1, &[3, 5, 6, 7]);
     table::check(b"nested 1 1", 1, 1, &[1, 1]);

@@ -38,6 +38,12 @@ unfolding howMany
 many-add f a zero = rw (add-zero a) (sym (add-zero (howMany f a)))
 many-add f a (suc b) = let same = many-add f a b in rw (add-suc a b) (omega arith)
 
+-- the first number, and the others
+pub many-first : (f : ℕ → Bool) (n : ℕ) → howMany f (suc n) ≡ cond (f 0) 1 0 + howMany (λ i. f (suc i)) n
+unfolding howMany
+many-first f zero = refl
+many-first f (suc n) = let first = many-first f n in omega arith
+
 -- those that pass and those that do not
 pub many-not : (f : ℕ → Bool) (n : ℕ) → howMany f n + howMany (λ i. not (f i)) n ≡ n
 unfolding howMany

@@ -50,6 +50,14 @@ module _ {A : Type 0} where
   all-at f d (x ∷ xs) e zero h = and-left (f x) (all f xs) e
   all-at f d (x ∷ xs) e (suc i) h = all-at f d xs (and-right (f x) (all f xs) e) i (omega arith)
 
+  -- and all of them, or one that fails
+  pub all-true : (f : A → Bool) (d : A) (xs : List A) → ((i : ℕ) → i < length xs → f (getD xs i d) ≡ true) → all f xs ≡ true
+  all-true f d [] h = refl
+  all-true f d (x ∷ xs) h = and-both (h 0 (omega arith)) (all-true f d xs (λ i l. h (suc i) (omega arith)))
+
+  pub all-false : (f : A → Bool) (d : A) (xs : List A) (i : ℕ) → i < length xs → f (getD xs i d) ≡ false → all f xs ≡ false
+  all-false f d xs i h e = not-true-false (all f xs) (λ t. clash (all-at f d xs t i h) e)
+
   -- of two lists joined
   pub all-append : (f : A → Bool) (xs ys : List A) → all f xs ≡ true → all f ys ≡ true → all f (xs ++ ys) ≡ true
   all-append f [] ys p q = q

@@ -4,7 +4,7 @@ use mathlib.Core.List.{List, [], _∷_, _++_, map}
 use mathlib.Core.Path.{_≡_, refl}
 use Prim.Native.Nat.{ℕ}
 use Rattle.lists.specs.At.{at}
-use Rattle.lists.specs.Counting.{each, total}
+use Rattle.lists.specs.Counting.{each, howMany, total}
 use Rattle.stations.specs.Member.{member}
 use Rattle.stations.specs.Sets.{contains, setOf, lowestAmong, lowestFrom}
 use Rattle.quorum.specs.Answer.{answer, answerTo}
@@ -60,7 +60,7 @@ first-enters = Call.Request 0 0 (unitsOf 1) ∷ Call.Up 0 0 ∷ Call.Down 0 0 �
 abbrev second-waits : List Call
 second-waits = Call.Request 1 2 (unitsOf 1) ∷ Call.Up 1 1 ∷ Call.Down 1 1 ∷ []
 
--- Left the definitions, right what document 01 says. (It says nothing of even; an answer is shown whole.)
+-- Left the definitions, right what document 01 says. (It says nothing of even, which is document 02's; an answer is shown whole.)
 pub marked :
     _≡_ {A = List Says}
     -- P1
@@ -93,15 +93,15 @@ pub marked :
     -- P2
     ∷ Says.table 0 3 1 []
     -- P3
-    ∷ Says.table 6 3 0 (0 ∷ 1 ∷ 2 ∷ [])
+    ∷ Says.table 6 3 1 (0 ∷ 1 ∷ 2 ∷ [])
     -- P4
-    ∷ Says.table 6 2 0 (0 ∷ 1 ∷ [])
+    ∷ Says.table 6 2 1 (0 ∷ 1 ∷ [])
     -- P5
     ∷ Says.table 0 4 1 []
     -- P6
-    ∷ Says.table 6 4 0 (0 ∷ 1 ∷ 2 ∷ 3 ∷ [])
+    ∷ Says.table 6 4 1 (0 ∷ 1 ∷ 2 ∷ 3 ∷ [])
     -- P7
-    ∷ Says.table 6 2 0 (0 ∷ 1 ∷ [])
+    ∷ Says.table 6 2 1 (0 ∷ 1 ∷ [])
     -- P8
     ∷ Says.table 7 0 0 []
     -- P9
@@ -113,5 +113,5 @@ pub marked :
     -- P12
     ∷ Says.calls (done ∷ done ∷ done ∷ done ∷ enters 1 ∷ done ∷ done ∷ refuses 13 ∷ [])
     ∷ [])
-unfolding answer answerTo refusal nested even belongs width emptied leastSize firstFamily lacksCommon commonWithin families brokenLimit member contains cubeTable each cubeQuorum setOf agree coordinate lowestAmong lowestFrom at total fresh answered arrived fits serve unitsIn onward taken receivedAs received returning down goesUp goesDown keeps phaseIn entryIn arbiterIn inRange releasing releaseRefusal givenBack released release requestRefusal requested request call run replying granting deliveryRefusal deliveredOf delivered up requestIn grantIn askedWith unitsOf stockOf
+unfolding answer answerTo refusal nested even belongs howMany width emptied leastSize firstFamily lacksCommon commonWithin families brokenLimit member contains cubeTable each cubeQuorum setOf agree coordinate lowestAmong lowestFrom at total fresh answered arrived fits serve unitsIn onward taken receivedAs received returning down goesUp goesDown keeps phaseIn entryIn arbiterIn inRange releasing releaseRefusal givenBack released release requestRefusal requested request call run replying granting deliveryRefusal deliveredOf delivered up requestIn grantIn askedWith unitsOf stockOf
 marked = refl

@@ -1,19 +1,18 @@
 -- How large the numbers of an answer can be, on every table.
 -- Assumes nothing.
-use mathlib.Core.Bool.{Bool, true, false, cond}
+use mathlib.Core.Bool.{Bool, true, false, cond, _&&_}
 use mathlib.Core.List.{List, []}
 use mathlib.Core.Logic.{⊎-elim, by-cases}
 use mathlib.Core.Path.{_≡_}
 use Prim.Native.Nat.{ℕ, _≤_, _<_, zero-le}
 use native.Mathlib.Decide.{ℕ-discrete}
 use native.Mathlib.Omega.{arith}
-use lib.Dec.{eqb, ltb}
+use lib.Dec.{ltb}
 use lib.ListN.{length}
 use borrow.Author.Tests.{ltb-true, ltb-false, ne-eqb}
-use Rattle.lists.specs.Search.{everyBelow}
 use Rattle.lists.proofs.Tests.{known, capped}
 use Rattle.quorum.specs.Answer.{Answer, answerTo, answer}
-use Rattle.quorum.specs.Even.{belongs, even}
+use Rattle.quorum.specs.Even.{equalShares, equalSizes, even}
 use Rattle.quorum.specs.Family.{Family}
 use Rattle.quorum.specs.Limits.{mostStations, brokenLimit}
 use Rattle.quorum.specs.Nested.{nested}
@@ -39,7 +38,7 @@ module _ (n : ℕ) (table : List ℕ) where
 
   even-one : even n table ≤ 1
   unfolding even
-  even-one = capped 1 (everyBelow (λ i. eqb (belongs table i) (belongs table 0)) n) (omega arith) (omega arith)
+  even-one = capped 1 (equalShares n table && equalSizes table) (omega arith) (omega arith)
 
   -- "On 1 to 5: width 0, even 0, no family."
   early : (r : ℕ) → 0 < r → r ≤ 5 → Bounds table (answerTo n table r)
@@ -55,7 +54,7 @@ module _ (n : ℕ) (table : List ℕ) where
     unfolding answerTo
     on-six lacks =
         let first = first-family-is n k table kept lacks in
-        record { refusal = omega arith; width = width-twelve; even = zero-le; family = first .family; few = omega (arith, first .size, width-twelve) }
+        record { refusal = omega arith; width = width-twelve; even = even-one; family = first .family; few = omega (arith, first .size, width-twelve) }
 
     later : (b : Bool) → Bounds table (answerTo n table (cond b 7 0))
     unfolding answerTo

@@ -13,6 +13,7 @@ use Rattle.lists.specs.Cut.{cut}
 use Rattle.lists.proofs.Tests.{and-left}
 use Rattle.stations.specs.Sets.{everyone}
 use Rattle.quorum.specs.Answer.{Answer, refused, answerTo, answer, said}
+use Rattle.quorum.specs.Even.{even}
 use Rattle.quorum.specs.FirstFamily.{firstFamily}
 use Rattle.quorum.specs.Inner.Need.{Needs, noNeed, sizeOf}
 use Rattle.quorum.specs.Limits.{brokenLimit}
@@ -56,13 +57,13 @@ module _ (n k : ℕ) (table : List ℕ) (room : ℕ) where
           let nothing : sizeOf (getD bytes (everyone n) 0) ≡ 0 = rw (eq-eqb (getD bytes (everyone n) 0) noNeed none) in
           omega (arith, leb-true 2 w (and-left (leb 2 w) (leb w (k + 1)) lacks))
 
-      pub six : (leb 2 w && leb w (k + 1)) ≡ true → (family : List ℕ) → cut 0 (getD bytes (everyone n) 0) family ≡ firstFamily n table
-          → said (record { refusal = 6; width = w; even = 0; size = w; family = family }) ≡ answer n k table room
+      pub six : (leb 2 w && leb w (k + 1)) ≡ true → (family : List ℕ) → cut 0 (getD bytes (everyone n) 0) family ≡ firstFamily n table → (e : ℕ) → e ≡ even n table
+          → said (record { refusal = 6; width = w; even = e; size = w; family = family }) ≡ answer n k table room
       unfolding said answer answerTo lacksCommon
-      six lacks family first =
+      six lacks family first e balanced =
           let byte : w ≡ getD bytes (everyone n) 0 = size ∙ rw (ne-eqb (getD bytes (everyone n) 0) noNeed (byte-finite lacks)) in
           let six : (leb 2 (width n table) && leb (width n table) (k + 1)) ≡ true = rw width-found at lacks in
-          rw (refusal-six n k table room kept enough six, ← first, ← byte, ← width-found)
+          rw (balanced, refusal-six n k table room kept enough six, ← first, ← byte, ← width-found)
 
       pub seven-or-none : (leb 2 w && leb w (k + 1)) ≡ false → (x : Answer) → x ≡ answerTo n table (cond (nested table) 7 0) → x ≡ answer n k table room
       unfolding answer lacksCommon

@@ -1,5 +1,6 @@
 -- What a reader looks for, and what the crates above may use; the other files are the reasons, and no other crate can name them.
 pub mod CheckAccepts
+pub mod CheckEven
 pub mod WidthSmallest
 pub mod Promises
 mod CommonParts

@@ -30,6 +30,10 @@ pub use Rattle.quorum.proofs.Sorted.{family-numbers, family-length}
 -- "It never passes n", and a table that lacks a common member has a width of 2 to k + 1.
 pub use Rattle.quorum.proofs.Lacking.{lacks-width}
 pub use Rattle.quorum.proofs.Widths.{width-le-n}
+-- Even is 1 exactly on symmetric tables; and for those who show that a table of theirs is one: the quorums that a station belongs to, counted by their
+-- numbers, and among all numbers that pass a test.
+pub use Rattle.quorum.proofs.CheckEven.{symmetric-even, even-iff}
+pub use Rattle.quorum.proofs.Evenness.{belongs-numbers, belongs-listed}
 -- For those who show that a table of theirs is a k-arbiter: quorums by their places, and their common part.
 pub use Rattle.quorum.proofs.CommonMember.{common-or-empty}
 pub use Rattle.quorum.proofs.CommonParts.{in-every, number-at}

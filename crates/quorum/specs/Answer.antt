@@ -21,11 +21,11 @@ pub record Answer : Type 0 where
 abbrev pub refused : ℕ → Answer
 refused r = record { refusal = r; width = 0; even = 0; family = [] }
 
--- "On 6: width, even 0, and the family .. On 7: width, even 0, no family. Accepted: no family."
+-- "On 6: width .. and the family .. On 7: width, even 0, no family. Accepted: no family."; and even is worked out "On an accepted table and on 6"
 unfoldable pub answerTo : ℕ → List ℕ → ℕ → Answer
 answerTo n table r =
     cond (eqb r 0) (record { refusal = 0; width = width n table; even = even n table; family = [] })
-    (cond (eqb r 6) (record { refusal = 6; width = width n table; even = 0; family = firstFamily n table })
+    (cond (eqb r 6) (record { refusal = 6; width = width n table; even = even n table; family = firstFamily n table })
     (cond (eqb r 7) (record { refusal = 7; width = width n table; even = 0; family = [] })
     (refused r)))
 

@@ -5,6 +5,7 @@ pub mod Smallest
 pub mod FirstFamily
 pub mod Nested
 pub mod Even
+pub mod Symmetric
 pub mod Refusal
 pub mod Scratch
 pub mod Answer

@@ -110,10 +110,11 @@ fn judge(n: usize, k: usize, quorums: &[u16], scratch: &mut [u8]) -> Checked
     let width = width_of(n, scratch);
     if lacks(k, width) {
         let family = family::first_family(n, quorums, scratch);
+        let even = even::evenness(n, quorums);
         return Checked {
             refusal: refusals::NO_COMMON_MEMBER,
             width,
-            even: 0,
+            even, // as on an accepted table
             size: width,
             family,
         };

@@ -15,6 +15,7 @@
 //! let refused = check(5, 4, &table[..quorums], &mut scratch).unwrap_err();
 //! assert_eq!(refused.refusal, Refusal::NoCommonMember);
 //! assert_eq!(refused.family(), [0, 1, 2, 3, 4]);
+//! assert!(refused.even);
 //!
 //! // of the sets of three working stations none contains a quorum, of those of four all five do: one outage is survived, whichever it is
 //! let survived = outages(5, 2, &table[..quorums], &mut scratch)?;
@@ -76,7 +77,7 @@ pub use refusal::Refusal;
 pub struct Accepted {
     /// The size of the smallest family of quorums without a common station, 0 if there is none.
     pub width: usize,
-    /// Whether all stations belong to equally many quorums.
+    /// Whether all stations belong to equally many quorums and all quorums have equal size.
     pub even: bool,
 }
 
@@ -86,6 +87,8 @@ pub struct Refused {
     pub refusal: Refusal,
     /// The width, on refusals 6 and 7; otherwise 0.
     pub width: usize,
+    /// On refusal 6 whether the table is even, as an accepted one may be; otherwise false.
+    pub even: bool,
     size: usize,
     family: [u8; MOST_STATIONS],
 }
@@ -114,6 +117,7 @@ pub fn check(
         Some(refusal) => Err(Refused {
             refusal,
             width: checked.width,
+            even: checked.even == 1,
             size: checked.size,
             family: checked.family,
         }),

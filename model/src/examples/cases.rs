@@ -15,7 +15,7 @@ const TOO_MANY: [u16; 65] = {
     quorums
 };
 
-const TABLES: [Table; 23] = [
+const TABLES: [Table; 25] = [
     ("P1", 1, 1, &[1], 5000),
     ("P2", 3, 1, &[3, 5, 6], 5000),
     ("P3", 3, 2, &[3, 5, 6], 5000),
@@ -34,6 +34,8 @@ const TABLES: [Table; 23] = [
     ("refusal 7", 2, 1, &[1, 3], 5000),
     ("nested 3 5 6 7", 3, 1, &[3, 5, 6, 7], 5000),
     ("nested 1 1", 1, 1, &[1, 1], 5000),
+    ("two sizes", 6, 1, &[7, 28, 49, 42, 54, 45, 27], 5000),
+    ("two shares", 3, 1, &[3, 5], 5000),
     ("check 1 before 2", 13, 0, &[1], 5000),
     ("check 2 before 3", 1, 201, &[], 5000),
     ("check 3 before 4", 3, 1, &TOO_MANY, 5000),

@@ -115,6 +115,9 @@ pub fn generate(rng: &mut Rng) -> Case {
     if rng.percent(20) {
         (n, k, quorums) = renamed(rng);
     }
+    if rng.percent(10) {
+        quorums = random::turned(rng, n);
+    }
     if rng.percent(5) {
         let place = rng.below(quorums.len());
         let high = 2u16.pow(rng.between(n, 15) as u32);

@@ -39,16 +39,20 @@ first-family-requires c κs =
       ),
     )
 
+evenness-requires : tie.Need-evenness-requires
+evenness-requires c κs = search needs
+
 same-length : tie.Need-same-length
 same-length c = search needs
 
 returns : tie.Need-returns
 returns c =
-    let start = c .before .before .before .before .before .before .before .before .before .before .before .before in
-    let bytes = c .before .before .before .before .before .before .before .before .fill .last .1 .1 .0 in (
-      six (start .args .n) (start .args .k) (start .args .quorums .now) (length (start .args .scratch .now)) (start .pre .0) (start .pre .1) bytes (c .before .before .before .before .before .before .before .before .fill .ensures .0)
-          (c .before .before .before .before .width-of .result) (c .before .before .before .before .width-of .ensures) (sym (c .before .before .before .lacks .ensures) ∙ c .before .before .if1 .taken) (c .first-family .result) (c .first-family .ensures),
-      c .before .before .before .before .before .before .before .before .fill .ensures .1,
+    let start = c .before .before .before .before .before .before .before .before .before .before .before .before .before in
+    let fill = c .before .before .before .before .before .before .before .before .before .fill in (
+      six (start .args .n) (start .args .k) (start .args .quorums .now) (length (start .args .scratch .now)) (start .pre .0) (start .pre .1) (fill .last .1 .1 .0) (fill .ensures .0)
+          (c .before .before .before .before .before .width-of .result) (c .before .before .before .before .before .width-of .ensures) (sym (c .before .before .before .before .lacks .ensures) ∙ c .before .before .before .if1 .taken)
+          (c .before .first-family .result) (c .before .first-family .ensures) (c .evenness .result) (c .evenness .ensures),
+      fill .ensures .1,
     )
 
 answer-nested-or-not-requires : tie.Need-answer-nested-or-not-requires
@@ -78,6 +82,7 @@ judge-spec =
     width-of-requires
     lacks-requires
     first-family-requires
+    evenness-requires
     same-length
     returns
     answer-nested-or-not-requires
