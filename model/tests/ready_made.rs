@@ -107,13 +107,11 @@ fn seconds() -> Vec<usize> {
     all
 }
 
-/// "Every table written passes 6 and 7 for its k".
-fn assert_passes(n: usize, k: usize, quorums: &[u16]) {
-    assert_eq!(
-        check(n, k, quorums, SCRATCH).refusal,
-        0,
-        "n = {n}, k = {k}, {quorums:?}"
-    );
+/// "Every table written passes 6 and 7 for its k", and is even or not.
+fn assert_passes(n: usize, k: usize, quorums: &[u16], even: bool) {
+    let checked = check(n, k, quorums, SCRATCH);
+    let answer = (checked.refusal, checked.even);
+    assert_eq!(answer, (0, even), "n = {n}, k = {k}, {quorums:?}");
 }
 
 #[test]
@@ -125,7 +123,7 @@ fn singletons() {
             compare(&SINGLETON, n, station, &made, &mut seen);
             if let Ok(quorums) = made {
                 for k in 1..=200 {
-                    assert_passes(n, k, &quorums);
+                    assert_passes(n, k, &quorums, n == 1);
                 }
             }
         }
@@ -141,7 +139,7 @@ fn uniforms() {
             let made = uniform(n, k);
             compare(&UNIFORM, n, k, &made, &mut seen);
             if let Ok(quorums) = made {
-                assert_passes(n, k, &quorums);
+                assert_passes(n, k, &quorums, true);
             }
         }
     }
@@ -156,7 +154,7 @@ fn cubes() {
             let made = cube(a, k);
             compare(&CUBE, a, k, &made, &mut seen);
             if let Ok(quorums) = made {
-                assert_passes(quorums.len(), k, &quorums);
+                assert_passes(quorums.len(), k, &quorums, true);
             }
         }
     }

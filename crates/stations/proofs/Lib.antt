@@ -4,6 +4,7 @@ pub mod Counts
 pub mod Ones
 pub mod Choosing
 pub mod SetsOfSize
+pub mod SetsWith
 pub mod Neighbours
 pub mod Lowest
 pub mod Above

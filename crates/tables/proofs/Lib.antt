@@ -6,3 +6,4 @@ pub mod CubeSize
 pub mod CubeArbiter
 pub mod WritingSets
 pub mod UniformArbiter
+pub mod SymmetricTables
