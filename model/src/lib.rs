@@ -1,4 +1,4 @@
-//! A plain model of document 01 and of document 02's points 1 to 4, written from the documents alone, for comparison with the
+//! A plain model of document 01 and of document 02's points 1 to 5, written from the documents alone, for comparison with the
 //! verified code. It is meant to be obviously right and nothing else: growable lists, sets written out, and brute force
 //! where that is small.
 //!
