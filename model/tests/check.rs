@@ -54,6 +54,7 @@ fn compare_half(first: u64) {
     let mut refusals = BTreeMap::new();
     let mut widths = BTreeMap::new();
     let mut evens = BTreeMap::new();
+    let mut senses = BTreeMap::new();
     for seed in first..first + HALF {
         let case = generate(&mut Rng::new(seed));
         let answer = compare(seed, &case);
@@ -61,11 +62,13 @@ fn compare_half(first: u64) {
         if matches!(answer.refusal, 0 | 6 | 7) {
             *widths.entry((answer.refusal, answer.width)).or_insert(0) += 1;
         }
-        // In either sense, both or none. Of 5 and 7 too: there even is 0, whatever the table.
+        // Of 5 and 7 too: there even is 0, whatever the table. And each sense by itself, both or none.
         if matches!(answer.refusal, 0 | 5 | 6 | 7) {
+            let both = even(case.n, &case.quorums);
+            *evens.entry((answer.refusal, both)).or_insert(0) += 1;
             let shares = equal_shares(case.n, &case.quorums);
             let sizes = equal_sizes(&case.quorums);
-            *evens.entry((answer.refusal, shares, sizes)).or_insert(0) += 1;
+            *senses.entry((answer.refusal, shares, sizes)).or_insert(0) += 1;
         }
     }
     let seen = |key| refusals.get(&key).copied().unwrap_or(0);
@@ -87,8 +90,10 @@ fn compare_half(first: u64) {
     }
     let nested_and_wide: usize = (1..=12).map(|width| of_width(width)[2]).sum();
     assert!(nested_and_wide >= 300, "widths {widths:?}");
-    assert!(evens.len() == 16, "even {evens:?}");
-    assert!(evens.values().all(|&seen| seen >= 30), "even {evens:?}");
+    assert!(evens.len() == 8, "even {evens:?}");
+    assert!(evens.values().all(|&seen| seen >= 300), "even {evens:?}");
+    assert!(senses.len() == 16, "senses {senses:?}");
+    assert!(senses.values().all(|&seen| seen >= 30), "{senses:?}");
 }
 
 #[test]

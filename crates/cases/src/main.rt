@@ -1,4 +1,5 @@
-// Runs the examples of documents 01 and 02 that are tables and prints what each answers, one line an example, and one more for the outages that its table survives.
+// Runs the examples of documents 01 and 02 that are tables and prints what each answers, one line an example, and one more for the outages that its
+// table survives.
 mod counts;
 mod even;
 mod makers;
