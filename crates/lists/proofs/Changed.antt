@@ -25,6 +25,13 @@ module _ {A : Type 0} where
   at-all P f a x p i q =
       by-cases (ℕ-discrete i a) (λ (e : i ≡ a). rw (e, at-same f a x) p) (λ (d : i ≡ a → ⊥). rw (at-other f a x i d) q)
 
+-- what holds of the pair a, b, and of every other
+pub pair-all : (P : ℕ → ℕ → Type 0) (a b : ℕ) → P a b → ((i j : ℕ) → (i ≡ a → j ≡ b → ⊥) → P i j) → (i j : ℕ) → P i j
+pair-all P a b here other i j =
+    by-cases (ℕ-discrete j b)
+    (λ (e : j ≡ b). by-cases (ℕ-discrete i a) (λ (e′ : i ≡ a). rw (e, e′) here) (λ (o : i ≡ a → ⊥). other i j (λ y z. o y)))
+    (λ (o : j ≡ b → ⊥). other i j (λ y z. o z))
+
 -- the same of a pair
 module _ {A : Type 0} where
   pub at2-same : (f : ℕ → ℕ → A) (a b : ℕ) (x : A) → at2 f a b x a b ≡ x
@@ -39,9 +46,4 @@ module _ {A : Type 0} where
   -- what holds of x, and of f at i, j where that is another pair
   pub at2-all : (P : A → Type 0) (f : ℕ → ℕ → A) (a b : ℕ) (x : A) → P x → (i j : ℕ) → ((i ≡ a → j ≡ b → ⊥) → P (f i j)) → P (at2 f a b x i j)
   at2-all P f a b x p i j q =
-      by-cases (ℕ-discrete j b)
-      (λ (e : j ≡ b). by-cases (ℕ-discrete i a) (λ (e′ : i ≡ a). rw (e, e′, at2-same f a b x) p) (λ (o : i ≡ a → ⊥). elsewhere (λ y z. o y)))
-      (λ (o : j ≡ b → ⊥). elsewhere (λ y z. o z))
-    where
-      elsewhere : (i ≡ a → j ≡ b → ⊥) → P (at2 f a b x i j)
-      elsewhere o = rw (at2-other f a b x i j o) (q o)
+      pair-all (λ y z. ((y ≡ a → z ≡ b → ⊥) → P (f y z)) → P (at2 f a b x y z)) a b (λ r. rw (at2-same f a b x) p) (λ y z o r. rw (at2-other f a b x y z o) (r o)) i j q

@@ -2,9 +2,9 @@
 -- Assumes nothing.
 use mathlib.Core.Logic.{by-cases}
 use mathlib.Core.Path.{_≡_, refl, ap, ap₂}
-use Prim.Native.Nat.{ℕ, zero, suc, _+_, _≤_, _<_}
+use Prim.Native.Nat.{ℕ, zero, suc, _+_, _*_, _≤_, _<_}
 use native.Mathlib.Decide.{ℕ-discrete}
-use native.Mathlib.Nat.{add-comm}
+use native.Mathlib.Nat.{add-comm, suc-mul}
 use native.Mathlib.Numerals.{add-one}
 use native.Mathlib.Omega.{arith}
 use Rattle.lists.specs.At.{at}
@@ -23,6 +23,20 @@ unfolding total
 total-le f g zero h = omega arith
 total-le f g (suc n) h = let last = h n (omega arith) in let rest = total-le f g n (λ i p. h i (omega arith)) in omega arith
 
+-- and smaller at one of the numbers
+pub total-less : (f g : ℕ → ℕ) (n a : ℕ) → a < n → ((i : ℕ) → i < n → f i ≤ g i) → f a < g a → total f n < total g n
+unfolding total
+total-less f g zero a l h less = absurd (omega arith)
+total-less f g (suc n) a l h less =
+    by-cases (ℕ-discrete a n) (λ (e : a ≡ n). let here = rw e at less in let rest = total-le f g n (λ i p. h i (omega arith)) in omega arith)
+    (λ (d : a ≡ n → ⊥). let last = h n (omega arith) in let rest = total-less f g n a (omega arith) (λ i p. h i (omega arith)) less in omega arith)
+
+-- values of at most c
+pub total-most : (f : ℕ → ℕ) (n c : ℕ) → ((i : ℕ) → i < n → f i ≤ c) → total f n ≤ n * c
+unfolding total
+total-most f zero c h = omega arith
+total-most f (suc n) c h = let last = h n (omega arith) in let rest = total-most f n c (λ i p. h i (omega arith)) in omega (arith, suc-mul n c)
+
 -- fewer numbers
 pub total-within : (f : ℕ → ℕ) (i n : ℕ) → i ≤ n → total f i ≤ total f n
 unfolding total
@@ -36,6 +50,14 @@ pub total-none : (f : ℕ → ℕ) (n : ℕ) → ((i : ℕ) → i < n → f i �
 unfolding total
 total-none f zero h = refl
 total-none f (suc n) h = let last = h n (omega arith) in let rest = total-none f n (λ i p. h i (omega arith)) in omega arith
+
+-- some value
+pub total-some : (f : ℕ → ℕ) (n : ℕ) → 0 < total f n → (i : ℕ) × (i < n) × (0 < f i)
+unfolding total
+total-some f zero h = absurd (omega arith)
+total-some f (suc n) h =
+    by-cases (ℕ-discrete (f n) 0) (λ (e : f n ≡ 0). let (i, l, some) = total-some f n (omega arith) in (i, omega arith, some))
+    (λ (d : f n ≡ 0 → ⊥). (n, omega arith, omega arith))
 
 -- numbers from m on that have no value
 pub total-past : (f : ℕ → ℕ) (m n : ℕ) → m ≤ n → ((i : ℕ) → m ≤ i → i < n → f i ≡ 0) → total f n ≡ total f m

@@ -1,14 +1,15 @@
 -- Amounts of units, added up over stations.
 -- Assumes nothing.
-use mathlib.Core.Bool.{true}
-use mathlib.Core.Path.{_≡_, refl}
-use Prim.Native.Nat.{ℕ, _+_, _≤_}
+use mathlib.Core.Bool.{true, false}
+use mathlib.Core.Path.{_≡_, refl, ap}
+use Prim.Native.Nat.{ℕ, _+_, _≤_, _<_}
 use native.Mathlib.Omega.{arith}
-use borrow.Author.Tests.{le-leb, leb-true}
+use lib.Dec.{leb}
+use borrow.Author.Tests.{le-leb, leb-true, leb-false}
 use Rattle.lists.specs.At.{at}
 use Rattle.lists.specs.Counting.{total}
-use Rattle.lists.proofs.Tests.{and-both}
-use Rattle.lists.proofs.Totals.{total-none, total-at-le}
+use Rattle.lists.proofs.Tests.{and-both, and-right}
+use Rattle.lists.proofs.Totals.{total-none, total-some, total-at-le}
 use Rattle.units.specs.Units.{noUnits, requestIn, fits, Amount, amount, only, askedWith, askedBy}
 use Rattle.units.specs.declared.Units.{Units}
 
@@ -61,3 +62,12 @@ module _ (n : ℕ) (stock : Units) where
     pub only-fits : (a : Amount) (x : ℕ) → Within n stock granted → x + total (λ s. amount a (granted s)) n ≤ amount a stock → fits n stock granted (only a x) ≡ true
     unfolding fits amount only
     only-fits Amount.positions x w le = le-leb (x + total (λ s. granted s .positions) n) (stock .positions) le
+
+    -- units that are asked for fit where nothing is granted: where they do not, something is granted to a station
+    pub some-granted : (u : Units) → requestIn stock u ≡ true → fits n stock granted u ≡ false → (s : ℕ) × (s < n) × (granted s ≡ noUnits → ⊥)
+    unfolding fits requestIn
+    some-granted u asked e =
+        let few = leb-true (u .positions) (stock .positions) (and-right (leb 1 (u .positions)) (leb (u .positions) (stock .positions)) asked) in
+        let many = leb-false (u .positions + total (λ s. granted s .positions) n) (stock .positions) e in
+        let (s, l, some) = total-some (λ s. granted s .positions) n (omega arith) in
+        (s, l, λ none. omega (arith, ap (λ (g : Units). g .positions) none))
