@@ -20,7 +20,7 @@ use Rattle.plain.proofs.Pairs.{Part, Pair, request-arrives, release-arr
 use Rattle.plain.proofs.Replying.{replied}
 use Rattle.plain.proofs.Serving.{units-append}
 
-own-units : (s : ℕ) (h : Units) → unitsIn s (record { station = s; units = h } ∷ []) ≡ h ∷ []
+pub own-units : (s : ℕ) (h : Units) → unitsIn s (record { station = s; units = h } ∷ []) ≡ h ∷ []
 unfolding unitsIn
 own-units s h = rw (eq-eqb s s refl)
 

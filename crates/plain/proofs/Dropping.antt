@@ -43,7 +43,7 @@ module _ (s : ℕ) where
       ⊎-elim (λ (t : eqb (e .station) s ≡ true). rw t (omega (arith, without-short line))) (λ (f : eqb (e .station) s ≡ false). rw f (omega (arith, without-short line)))
       (known (eqb (e .station) s))
 
-  without-all : (f : Entry → Bool) (line : List Entry) → all f line ≡ true → all f (without s line) ≡ true
+  pub without-all : (f : Entry → Bool) (line : List Entry) → all f line ≡ true → all f (without s line) ≡ true
   unfolding without
   without-all f [] h = refl
   without-all f (e ∷ line) h =

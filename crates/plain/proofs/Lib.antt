@@ -7,6 +7,7 @@ pub mod Releasing
 pub mod Withdrawing
 pub mod Replying
 pub mod Dropping
+pub mod AfterWithdraw
 pub mod Range
 pub mod Answered
 pub mod Passed
@@ -24,6 +25,14 @@ pub mod Withdrawn
 pub mod StillToCome
 pub mod UnderWay
 pub mod SameTable
+pub mod ArbitersServed
+pub mod PairSizes
+pub mod Weights
+pub mod Lighter
+pub mod Room
+pub mod Reached
+pub mod NobodyWaits
+pub mod DoneDeliveries
 pub mod Bound
 pub mod Visiting
 pub mod Visited
@@ -37,3 +46,4 @@ pub mod RefusalExamples
 pub mod RangeExamples
 pub mod WithdrawExamples
 pub mod WithdrawHandMade
+pub mod SilenceExamples

@@ -97,3 +97,15 @@ pub line-served : {p : Part} {g : Units} {up down : List Message} (a b : List Un
 line-served [] b x = rw (append-nil _) x
 line-served (h ∷ []) [] Pair.in-line = Pair.granted
 line-served (h ∷ []) [] Pair.left-in-line = Pair.left-granted
+
+-- ---- nothing is under way between them
+
+-- a station that waits stands in line
+pub still-waits : {w : List Units} {g h : Units} → Pair (Part.waits h) [] w g [] → w ≡ h ∷ []
+still-waits Pair.in-line = refl
+
+-- one that is granted units has them
+pub still-granted : {p : Part} {w : List Units} {g : Units} → Pair p [] w g [] → (g ≡ noUnits → ⊥) → p ≡ Part.has g
+still-granted Pair.clear some = absurd (some refl)
+still-granted Pair.in-line some = absurd (some refl)
+still-granted Pair.keeps some = refl

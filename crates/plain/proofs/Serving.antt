@@ -15,6 +15,7 @@ use Rattle.units.specs.Units.{fits}
 use Rattle.units.specs.declared.Units.{Units}
 use Rattle.units.proofs.Amounts.{Within, within-fits}
 use Rattle.plain.specs.Arbiter.{serve, unitsIn}
+use Rattle.plain.specs.Lanes.{oldest}
 use Rattle.plain.specs.declared.Entry.{Entry}
 use Rattle.plain.proofs.Pairs.{last}
 
@@ -35,8 +36,17 @@ module _ (n : ℕ) (stock : Units) where
   unfolding serve
   serve-splits g [] = refl
   serve-splits g (e ∷ line) =
-      ⊎-elim (λ (t : fits n stock g (e .units) ≡ true). rw t (ap (λ (l : List Entry). e ∷ l) (serve-splits (at g (e .station) (e .units)) line)))
+      ⊎-elim (λ (t : fits n stock g (e .units) ≡ true). rw t (cc (serve-splits (at g (e .station) (e .units)) line)))
       (λ (f : fits n stock g (e .units) ≡ false). rw f)
+      (known (fits n stock g (e .units)))
+
+  -- service ends where the line is empty or its first entry does not fit
+  pub serve-ends : (g : ℕ → Units) (line : List Entry)
+      → oldest (λ e. fits n stock (serve n stock g line .arbiter .granted) (e .units)) (serve n stock g line .arbiter .line) ≡ false
+  unfolding serve
+  serve-ends g [] = refl
+  serve-ends g (e ∷ line) =
+      ⊎-elim (λ (t : fits n stock g (e .units) ≡ true). rw t (serve-ends (at g (e .station) (e .units)) line)) (λ (f : fits n stock g (e .units) ≡ false). rw f f)
       (known (fits n stock g (e .units)))
 
   -- a station has the units that it was granted last

@@ -63,7 +63,7 @@ total-messages n table a (Holding q h) e = total-none (λ j. messages (share tab
 total-messages n table a Withdrawing e =
     omega (arith, total-at messages (λ j. Part.nothing) a Part.leaves n (ltb-true a n e), total-none (λ j. 0) n (λ j l. refl))
 
-kept-messages : (st : State) → Invariant st → (s : ℕ) → withdrawalsOf st s ≡ cond (isWithdrawing (st .phase s)) 1 0
+pub kept-messages : (st : State) → Invariant st → (s : ℕ) → withdrawalsOf st s ≡ cond (isWithdrawing (st .phase s)) 1 0
 kept-messages st i s =
     total-same (λ j. withdrawalsIn (st .up s j) + withdrawalsIn (st .down s j)) (λ j. messages (wants (st .table) (i .leaving s) (st .phase s) j)) (st .n) (λ j l. pair-messages (i .pairs s j))
     ∙ total-messages (st .n) (st .table) (i .leaving s) (st .phase s) (i .members s)

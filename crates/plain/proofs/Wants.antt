@@ -2,18 +2,19 @@
 -- Assumes nothing.
 use mathlib.Core.Bool.{Bool, true, false, cond}
 use mathlib.Core.List.{List}
-use mathlib.Core.Logic.{by-cases, ⊎-elim}
+use mathlib.Core.Logic.{_⊎_, inl, inr, by-cases, ⊎-elim}
 use mathlib.Core.Path.{_≡_, refl, sym, ap, _∙_}
 use Prim.Native.Nat.{ℕ, suc, _≤_, _<_}
-use native.Mathlib.Decide.{decLt}
+use native.Mathlib.Decide.{ℕ-discrete, decLt}
 use native.Mathlib.Omega.{arith}
 use lib.Dec.{eqb, ltb}
 use borrow.Author.Tests.{eq-eqb, ne-eqb, eqb-true, lt-ltb, le-ltb}
-use Rattle.lists.proofs.Tests.{known, clash}
+use Rattle.lists.proofs.Tests.{known, clash, either}
 use Rattle.stations.specs.Member.{member}
 use Rattle.quorum.specs.Family.{quorum}
 use Rattle.units.specs.Units.{noUnits}
 use Rattle.units.specs.declared.Units.{Units}
+use Rattle.plain.specs.Release.{isHolding}
 use Rattle.plain.specs.declared.Phase.{Phase}
 use Rattle.plain.specs.declared.Phase.the-variants.{Idle, Collecting, Holding, Withdrawing}
 use Rattle.plain.proofs.Pairs.{Part}
@@ -148,3 +149,23 @@ leaves-from table a Withdrawing j e = go (eqb j a) refl e
     go : (b : Bool) → eqb j a ≡ b → cond b Part.leaves Part.nothing ≡ Part.leaves → (Withdrawing ≡ Withdrawing) × (j ≡ a)
     go true s u = (refl, eqb-true j a s)
     go false s u = absurd (clash refl (ap is-leaving (sym u)))
+
+-- ---- a station that has units of j holds, or collects from a member above j
+
+is-having : Part → Bool
+is-having Part.nothing = false
+is-having (Part.waits h) = false
+is-having (Part.has h) = true
+is-having Part.leaves = false
+
+pub has-of : (table : List ℕ) (a : ℕ) (p : Phase) (j : ℕ) (h : Units) → wants table a p j ≡ Part.has h
+    → (isHolding p ≡ true) ⊎ ((q : ℕ) × (u : Units) × (m : ℕ) × (p ≡ Collecting q u m) × (j < m))
+unfolding wants is-having
+has-of table a Idle j h e = absurd (clash refl (ap is-having (sym e)))
+has-of table a (Collecting q u m) j h e =
+    by-cases (decLt j m) (λ (l : j < m). inr (q, u, m, refl, l))
+    (λ (l : ¬ (j < m)). by-cases (ℕ-discrete j m)
+    (λ (z : j ≡ m). absurd (clash refl (ap is-having (sym (rw z at e) ∙ wants-here table a q u m))))
+    (λ (d : j ≡ m → ⊥). absurd (clash refl (ap is-having (sym e ∙ wants-above table a q u m j (omega arith))))))
+has-of table a (Holding q u) j h e = inl refl
+has-of table a Withdrawing j h e = absurd (clash refl (ap is-having (sym e) ∙ either (λ p. is-having p ≡ false) (eqb j a) refl refl))

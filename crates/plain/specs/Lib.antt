@@ -14,5 +14,6 @@ pub mod Withdraw
 pub mod Run
 pub mod Withdrawn
 pub mod StillToCome
+pub mod Silence
 pub mod Exceeding
 pub mod Inner
