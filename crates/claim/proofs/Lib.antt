@@ -4,3 +4,4 @@ pub mod Demand3
 pub mod EndingCall
 pub mod Executing
 pub mod TraceExists
+pub mod RecordsRest

@@ -13,7 +13,7 @@ use Rattle.calls.specs.declared.Answer.{Answer}
 use Rattle.claim.specs.Trace.{LearntOf, Trace}
 
 -- a call's own contract says that its answer is the plain machine's
-learnt-call : (r : Record) (c : Call) (a : Answer) → LearntOf r c a → answerOf a ≡ call (view r) c
+pub learnt-call : (r : Record) (c : Call) (a : Answer) → LearntOf r c a → answerOf a ≡ call (view r) c
 unfolding call
 learnt-call r (Call.Request s q h) a e = e .0 ∙ ap (request (view r) s q) (units-number h)
 learnt-call r (Call.Up s j) a e = e .0

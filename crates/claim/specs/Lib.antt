@@ -1,3 +1,4 @@
 pub mod Trace
 pub mod Claim
 pub mod Execution
+pub mod Resting
