@@ -28,7 +28,7 @@ pub fn any_step(rng: &mut Rng, n: usize, k: usize, quorums: usize) -> Step {
 }
 
 /// Every delivery that there is something to deliver for.
-fn deliveries(r: &Record) -> Vec<Step> {
+pub fn deliveries(r: &Record) -> Vec<Step> {
     let mut found = Vec::new();
     for s in 0..r.n {
         for j in 0..r.n {

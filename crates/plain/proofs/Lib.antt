@@ -29,7 +29,7 @@ pub mod ArbitersServed
 pub mod PairSizes
 pub mod Weights
 pub mod Lighter
-pub mod Room
+pub mod DeliveryRoom
 pub mod Reached
 pub mod NobodyWaits
 pub mod DoneDeliveries

@@ -41,7 +41,7 @@ use Rattle.plain.proofs.Pairs.{Pair, still-waits, still-granted}
 use Rattle.plain.proofs.Passed.{up-done, down-done}
 use Rattle.plain.proofs.Range.{ranged}
 use Rattle.plain.proofs.Reached.{Reached, call-reached, calls-reached}
-use Rattle.plain.proofs.Room.{up-room, down-room}
+use Rattle.plain.proofs.DeliveryRoom.{up-room, down-room}
 use Rattle.plain.proofs.SameTable.{calls-same}
 use Rattle.plain.proofs.UnderWay.{kept-messages}
 use Rattle.plain.proofs.Wants.{wants, wants-here, has-of}
