@@ -44,7 +44,7 @@ impl Arbiter {
     }
 
     /// "its units plus all units granted at j are at most k"; the station's own old grant counts too.
-    fn fits(&self, n: usize, k: usize, entry: Entry) -> bool {
+    pub fn fits(&self, n: usize, k: usize, entry: Entry) -> bool {
         entry.units + self.granted[..n].iter().sum::<usize>() <= k
     }
 

@@ -18,7 +18,7 @@ use model::rng::Rng;
 use model::steps::{deliveries, next_step};
 use model::table::limits;
 use model::text::{Do, Step};
-use silence::quiet::{assert_quiet, collects, holds, most};
+use silence::quiet::{assert_quiet, assert_served, collects, holds, most};
 use silence::records::most_deliveries;
 use std::collections::BTreeMap;
 use texts::program::compare;
@@ -111,6 +111,7 @@ fn run(rng: &mut Rng, start: &Record, most: usize, bytes: usize) -> (Vec<Step>, 
             break;
         }
         record = take_step(&record, &step).record;
+        assert_served(&record, &format!("{step:?}"));
         steps.push(step);
     }
     (steps, record)

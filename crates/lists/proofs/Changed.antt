@@ -32,7 +32,7 @@ pair-all P a b here other i j =
     (λ (e : j ≡ b). by-cases (ℕ-discrete i a) (λ (e′ : i ≡ a). rw (e, e′) here) (λ (o : i ≡ a → ⊥). other i j (λ y z. o y)))
     (λ (o : j ≡ b → ⊥). other i j (λ y z. o z))
 
--- the same of a pair
+-- a function of a pair, changed at one
 module _ {A : Type 0} where
   pub at2-same : (f : ℕ → ℕ → A) (a b : ℕ) (x : A) → at2 f a b x a b ≡ x
   at2-same f a b x = rw (at-same f a (at (f a) b x), at-same (f a) b x)

@@ -4,7 +4,7 @@ use mathlib.Core.Logic.{by-cases}
 use mathlib.Core.Path.{_≡_, refl, ap, ap₂}
 use Prim.Native.Nat.{ℕ, zero, suc, _+_, _*_, _≤_, _<_}
 use native.Mathlib.Decide.{ℕ-discrete}
-use native.Mathlib.Nat.{add-comm, suc-mul}
+use native.Mathlib.Nat.{add-comm}
 use native.Mathlib.Numerals.{add-one}
 use native.Mathlib.Omega.{arith}
 use Rattle.lists.specs.At.{at}
@@ -35,7 +35,7 @@ total-less f g (suc n) a l h less =
 pub total-most : (f : ℕ → ℕ) (n c : ℕ) → ((i : ℕ) → i < n → f i ≤ c) → total f n ≤ n * c
 unfolding total
 total-most f zero c h = omega arith
-total-most f (suc n) c h = let last = h n (omega arith) in let rest = total-most f n c (λ i p. h i (omega arith)) in omega (arith, suc-mul n c)
+total-most f (suc n) c h = let last = h n (omega arith) in let rest = total-most f n c (λ i p. h i (omega arith)) in omega arith
 
 -- fewer numbers
 pub total-within : (f : ℕ → ℕ) (i n : ℕ) → i ≤ n → total f i ≤ total f n

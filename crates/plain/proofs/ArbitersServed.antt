@@ -19,11 +19,11 @@ use Rattle.plain.proofs.Calls.{each-call}
 use Rattle.plain.proofs.Serving.{serve-ends}
 
 -- a line that was served
-abbrev pub Served : ℕ → Units → Arbiter → Type 0
-Served n stock a = oldest (λ e. fits n stock (a .granted) (e .units)) (a .line) ≡ false
+abbrev pub LineServed : ℕ → Units → Arbiter → Type 0
+LineServed n stock a = oldest (λ e. fits n stock (a .granted) (e .units)) (a .line) ≡ false
 
 abbrev pub LinesServed : State → Type 0
-LinesServed st = (j : ℕ) → Served (st .n) (st .stock) (st .arbiter j)
+LinesServed st = (j : ℕ) → LineServed (st .n) (st .stock) (st .arbiter j)
 
 pub fresh-served : (n : ℕ) (stock : Units) (table : List ℕ) → LinesServed (fresh n stock table)
 unfolding fresh
@@ -38,7 +38,7 @@ call-served st c i =
       is-refused = λ r. i;
       by-request = λ s q h r room. i;
       by-up = λ s j m rest d room x.
-          at-all (Served (st .n) (st .stock)) (st .arbiter) j (servedAt st s j m .arbiter)
+          at-all (LineServed (st .n) (st .stock)) (st .arbiter) j (servedAt st s j m .arbiter)
           (serve-ends (st .n) (st .stock) (arrivedAt st s j m .granted) (arrivedAt st s j m .line)) x (i x);
       by-down = λ s j m rest d room. i;
       by-release = λ s q h r room. i;

@@ -34,9 +34,9 @@ use Rattle.plain.proofs.ArbitersInRange.{arbiter-facts}
 use Rattle.plain.proofs.Arriving.{arrived-own, arrived-line}
 use Rattle.plain.proofs.Dropping.{without-all}
 use Rattle.plain.proofs.Invariant.{Invariant, up-keeps, down-keeps}
-use Rattle.plain.proofs.LanesInRange.{keeps-all, keeps-first}
+use Rattle.plain.proofs.LanesInRange.{keeps-all}
 use Rattle.plain.proofs.PairSizes.{pair-up, pair-line, pair-down}
-use Rattle.plain.proofs.Range.{ranged}
+use Rattle.plain.proofs.Range.{ranged, taken-goes-up}
 
 -- ---- a line of entries of n stations
 
@@ -71,20 +71,17 @@ module _ (n : ℕ) (stock : Units) where
 -- ---- Up
 
 module _ (st : State) (s j : ℕ) (m : Message) (rest : List Message) (d : Delivers st s j (st .up s j) m rest) (i : Invariant st) where
-  goes-up : goesUp (st .stock) m ≡ true
-  goes-up = keeps-first upPlaces (goesUp (st .stock)) m rest (rw (d .taken) at (ranged st (d .range) .ups s (d .station) j (d .arbiter)))
-
   one-entry : (t : ℕ) → length (unitsIn t (arrivedAt st s j m .line)) ≤ 1
   one-entry t =
       by-cases (ℕ-discrete t s)
-      (λ (e : t ≡ s). rw e (pair-line (arrived-own (st .stock) s (st .arbiter j) m goes-up (rw (d .taken) at (i .pairs s j)))))
+      (λ (e : t ≡ s). rw e (pair-line (arrived-own (st .stock) s (st .arbiter j) m (taken-goes-up st s j m rest d) (rw (d .taken) at (i .pairs s j)))))
       (λ (o : t ≡ s → ⊥). rw (arrived-line (st .stock) s (st .arbiter j) m t o) (pair-line (i .pairs t j)))
 
   line-room : length (arrivedAt st s j m .line) ≤ st .n
   line-room =
       let facts = arbiter-facts (st .n) (st .stock) (st .arbiter j) (ranged st (d .range) .arbiters j (d .arbiter)) in
       line-most (st .n) (st .stock) (arrivedAt st s j m .line)
-      (arrived-all (st .n) (st .stock) m s (st .arbiter j) (d .station) goes-up (keeps-all linePlaces (entryIn (st .n) (st .stock)) (st .arbiter j .line) (facts .line)))
+      (arrived-all (st .n) (st .stock) m s (st .arbiter j) (d .station) (taken-goes-up st s j m rest d) (keeps-all linePlaces (entryIn (st .n) (st .stock)) (st .arbiter j .line) (facts .line)))
       one-entry
 
   lane-room : (t : ℕ) → length (grantedAt st s j m t j) ≤ downPlaces

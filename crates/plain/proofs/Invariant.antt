@@ -21,8 +21,8 @@ use Rattle.units.proofs.Amounts.{Within}
 use Rattle.plain.specs.Arbiter.{unitsIn, served, grantsTo}
 use Rattle.plain.specs.Down.{Taken, taken, left, takenAt, receivedAs}
 use Rattle.plain.specs.Inner.Passed.{Requests, Delivers, Releases}
-use Rattle.plain.specs.InRange.{goesUp, phaseIn}
-use Rattle.plain.specs.Lanes.{sent, upPlaces}
+use Rattle.plain.specs.InRange.{phaseIn}
+use Rattle.plain.specs.Lanes.{sent}
 use Rattle.plain.specs.Release.{releasing, givenBack}
 use Rattle.plain.specs.Request.{lowest, requested}
 use Rattle.plain.specs.State.{Arbiter, State}
@@ -33,9 +33,8 @@ use Rattle.plain.specs.declared.Phase.{Phase}
 use Rattle.plain.specs.declared.Phase.the-variants.{Idle, Collecting, Holding, Withdrawing}
 use Rattle.plain.proofs.Approaching.{onward-as, Lowest-member, first-member}
 use Rattle.plain.proofs.Arriving.{arrived-own, arrived-line, arrived-grants, arrived-stock}
-use Rattle.plain.proofs.LanesInRange.{keeps-first}
 use Rattle.plain.proofs.Pairs.{Part, Pair, sends-request, Takes, takes, sends-release, line-served}
-use Rattle.plain.proofs.Range.{ranged}
+use Rattle.plain.proofs.Range.{ranged, taken-goes-up}
 use Rattle.plain.proofs.Replying.{replying-own, replying-other}
 use Rattle.plain.proofs.Releasing.{releasing-member, releasing-other}
 use Rattle.plain.proofs.Serving.{units-append, serve-splits, serve-grants, serve-stock}
@@ -95,9 +94,6 @@ module _ (st : State) (s j : ℕ) (m : Message) (rest : List Message) (d : Deliv
   a : Arbiter
   a = arrivedAt st s j m
 
-  goes-up : goesUp (st .stock) m ≡ true
-  goes-up = keeps-first upPlaces (goesUp (st .stock)) m rest (rw (d .taken) at (ranged st (d .range) .ups s (d .station) j (d .arbiter)))
-
   -- the lane up of station t to j, its oldest message taken if t is the sender
   lane-up : ℕ → List Message
   lane-up t = at2 (st .up) s j rest t j
@@ -112,7 +108,7 @@ module _ (st : State) (s j : ℕ) (m : Message) (rest : List Message) (d : Deliv
   arrival t =
       by-cases (ℕ-discrete t s)
       (λ (e : t ≡ s). rw (e, at-same (st .up) s (at (st .up s) j rest), at-same (st .up s) j rest, replying-own (st .down) s j m)
-      (arrived-own (st .stock) s (st .arbiter j) m goes-up (rw (d .taken) at (i .pairs s j))))
+      (arrived-own (st .stock) s (st .arbiter j) m (taken-goes-up st s j m rest d) (rw (d .taken) at (i .pairs s j))))
       (λ (o : t ≡ s → ⊥).
       rw (at-other (st .up) s (at (st .up s) j rest) t o, arrived-line (st .stock) s (st .arbiter j) m t o, arrived-grants (st .stock) s (st .arbiter j) m t o, replying-other (st .down) s j m t j (λ e z. o e))
       (i .pairs t j))

@@ -85,9 +85,9 @@ arrives-lighter s a Grant rest down = omega arith
 arrives-lighter s a Gone rest down = omega arith
 
 -- an entry that leaves the line becomes a GRANT
-service-even : (n : ℕ) (stock : Units) (g : ℕ → Units) (line : List Entry) (t : ℕ) (up down : List Message)
+service-weight : (n : ℕ) (stock : Units) (g : ℕ → Units) (line : List Entry) (t : ℕ) (up down : List Message)
     → between up (unitsIn t (serve n stock g line .arbiter .line)) (down ++ grantsTo t (serve n stock g line .grants)) ≡ between up (unitsIn t line) down
-service-even n stock g line t up down =
+service-weight n stock g line t up down =
     let grants = serve n stock g line .grants in
     let left = serve n stock g line .arbiter .line in
     omega (
@@ -110,7 +110,7 @@ module _ (st : State) (s j : ℕ) (m : Message) (rest : List Message) (d : Deliv
   at-j t =
       rw (at-same (st .arbiter) j (servedAt st s j m .arbiter), eq-eqb j j refl)
       (ap (λ (x : ℕ). x + toAsk (st .table) (st .phase t) j)
-      (service-even (st .n) (st .stock) (arrivedAt st s j m .granted) (arrivedAt st s j m .line) t (at2 (st .up) s j rest t j) (replying m (st .down) s j t j)))
+      (service-weight (st .n) (st .stock) (arrivedAt st s j m .granted) (arrivedAt st s j m .line) t (at2 (st .up) s j rest t j) (replying m (st .down) s j t j)))
 
   up-here : pairWeight sent-up s j < pairWeight st s j
   up-here =
@@ -134,17 +134,17 @@ module _ (st : State) (s j : ℕ) (m : Message) (rest : List Message) (d : Deliv
 
 module _ (st : State) (s j : ℕ) (m : Message) (rest : List Message) (d : Delivers st s j (st .down s j) m rest) where
   -- what the station makes of the message: its lanes up and what it has still to ask weigh no more than before
-  Even : Taken → Type 0
-  Even t = (u x : ℕ) → laneWeight (upThen st s t u x) + toAsk (st .table) (phaseThen st s t u) x ≤ laneWeight (st .up u x) + toAsk (st .table) (st .phase u) x
+  AsLight : Taken → Type 0
+  AsLight t = (u x : ℕ) → laneWeight (upThen st s t u x) + toAsk (st .table) (phaseThen st s t u) x ≤ laneWeight (st .up u x) + toAsk (st .table) (st .phase u) x
 
-  drops-even : Even Taken.drops
-  unfolding Even
-  drops-even u x = omega arith
+  drops-as-light : AsLight Taken.drops
+  unfolding AsLight
+  drops-as-light u x = omega arith
 
   -- it asks nobody any more
-  rests-even : (p : Phase) → ((x : ℕ) → toAsk (st .table) p x ≡ 0) → (u x : ℕ)
+  rests-as-light : (p : Phase) → ((x : ℕ) → toAsk (st .table) p x ≡ 0) → (u x : ℕ)
       → laneWeight (st .up u x) + toAsk (st .table) (at (st .phase) s p u) x ≤ laneWeight (st .up u x) + toAsk (st .table) (st .phase u) x
-  rests-even p none u x =
+  rests-as-light p none u x =
       at-all (λ y. laneWeight (st .up u x) + toAsk (st .table) y x ≤ laneWeight (st .up u x) + toAsk (st .table) (st .phase u) x) (st .phase) s p (omega (arith, none x)) u (omega arith)
 
   -- REQUEST goes up to a member that it had still to ask
@@ -152,9 +152,9 @@ module _ (st : State) (s j : ℕ) (m : Message) (rest : List Message) (d : Deliv
     abbrev set : ℕ
     set = quorum (st .table) q
 
-    asks-even : (next : ℕ) → Lowest-member (st .n) set (suc j) next → Even (Taken.asks q h next)
-    unfolding Even toAsk
-    asks-even next low u x =
+    asks-as-light : (next : ℕ) → Lowest-member (st .n) set (suc j) next → AsLight (Taken.asks q h next)
+    unfolding AsLight toAsk
+    asks-as-light next low u x =
         by-cases (ℕ-discrete u s)
         (λ (e : u ≡ s). rw (e, at-same (st .phase) s (Collecting q h next), at-same (st .up) s _, collecting) own)
         (λ (o : u ≡ s → ⊥). rw (at-other (st .phase) s (Collecting q h next) u o, at-other (st .up) s _ u o) (omega arith))
@@ -169,39 +169,39 @@ module _ (st : State) (s j : ℕ) (m : Message) (rest : List Message) (d : Deliv
             (λ (l : next < x). rw (lt-ltb next x l, lt-ltb j x (omega (arith, low .from))) (omega arith))
             (λ (l : ¬ (next < x)). rw (le-ltb next x (omega arith)) (omega arith))))
 
-    grant-even : ltb q (length (st .table)) ≡ true → Even (onward (st .table) q h j)
-    unfolding Even toAsk
-    grant-even exists =
-        onward-as (st .n) (st .stock) (st .table) (ranged st (d .range) .limits) q (ltb-true q (length (st .table)) exists) Even h j
-        (λ low. asks-even (lowestFrom set (suc j)) low) (λ l none. rests-even (Holding q h) (λ x. refl))
+    grant-as-light : ltb q (length (st .table)) ≡ true → AsLight (onward (st .table) q h j)
+    unfolding AsLight toAsk
+    grant-as-light exists =
+        onward-as (st .n) (st .stock) (st .table) (ranged st (d .range) .limits) q (ltb-true q (length (st .table)) exists) AsLight h j
+        (λ low. asks-as-light (lowestFrom set (suc j)) low) (λ l none. rests-as-light (Holding q h) (λ x. refl))
 
-  taken-even : (p : Phase) → st .phase s ≡ p → phaseIn (st .n) (st .stock) (st .table) p ≡ true → Even (taken (st .table) j p)
+  taken-as-light : (p : Phase) → st .phase s ≡ p → phaseIn (st .n) (st .stock) (st .table) p ≡ true → AsLight (taken (st .table) j p)
   unfolding taken phaseIn
-  taken-even Idle e in-range = drops-even
-  taken-even (Collecting q h i) e in-range =
-      ⊎-elim (λ (t : eqb i j ≡ true). rw t (grant-even q h (e ∙ ap (Collecting q h) (eqb-true i j t)) (and-left (ltb q (length (st .table))) _ in-range)))
-      (λ (f : eqb i j ≡ false). rw f drops-even)
+  taken-as-light Idle e in-range = drops-as-light
+  taken-as-light (Collecting q h i) e in-range =
+      ⊎-elim (λ (t : eqb i j ≡ true). rw t (grant-as-light q h (e ∙ ap (Collecting q h) (eqb-true i j t)) (and-left (ltb q (length (st .table))) _ in-range)))
+      (λ (f : eqb i j ≡ false). rw f drops-as-light)
       (known (eqb i j))
-  taken-even (Holding q h) e in-range = drops-even
-  taken-even Withdrawing e in-range = drops-even
+  taken-as-light (Holding q h) e in-range = drops-as-light
+  taken-as-light Withdrawing e in-range = drops-as-light
 
-  made-even : Even (takenAt st s j m)
-  unfolding Even toAsk
-  made-even =
-      made-as Even (st .table) j (st .phase s) drops-even (taken-even (st .phase s) refl (ranged st (d .range) .phases s (d .station)))
-      (left-as Even (st .phase s) drops-even (λ w. rests-even Idle (λ x. refl)))
+  made-as-light : AsLight (takenAt st s j m)
+  unfolding AsLight toAsk
+  made-as-light =
+      made-as AsLight (st .table) j (st .phase s) drops-as-light (taken-as-light (st .phase s) refl (ranged st (d .range) .phases s (d .station)))
+      (left-as AsLight (st .phase s) drops-as-light (λ w. rests-as-light Idle (λ x. refl)))
       m
 
   abbrev sent-down : State
   sent-down = receivedAs st s j rest (takenAt st s j m)
 
   down-here : pairWeight sent-down s j < pairWeight st s j
-  unfolding receivedAs Even
-  down-here = rw (at2-same (st .down) s j rest, d .taken) (omega (arith, made-even s j, message-weight m))
+  unfolding receivedAs AsLight
+  down-here = rw (at2-same (st .down) s j rest, d .taken) (omega (arith, made-as-light s j, message-weight m))
 
   down-others : (t x : ℕ) → (t ≡ s → x ≡ j → ⊥) → pairWeight sent-down t x ≤ pairWeight st t x
-  unfolding receivedAs Even
-  down-others t x o = rw (at2-other (st .down) s j rest t x o) (omega (arith, made-even t x))
+  unfolding receivedAs AsLight
+  down-others t x o = rw (at2-other (st .down) s j rest t x o) (omega (arith, made-as-light t x))
 
   pub down-lighter : weight sent-down < weight st
   unfolding receivedAs

@@ -69,26 +69,26 @@ module _ (st : State) (r : Reached st) where
         },
       )
 
-  delivered : (c : Call) → isDelivery st c ≡ true → (call st c .refusal ≡ 0) × (weight (call st c .state) < weight st)
+  pub is-delivered : (c : Call) → isDelivery st c ≡ true → (call st c .refusal ≡ 0) × (weight (call st c .state) < weight st)
   unfolding call
-  delivered (Call.Request s q h) e = absurd (clash e refl)
-  delivered (Call.Up s j) e =
+  is-delivered (Call.Request s q h) e = absurd (clash e refl)
+  is-delivered (Call.Up s j) e =
       let (m, rest, d) = delivery s j (st .up s j) e in
       let is = up-done st s j d (up-room st s j m rest d (r .invariant)) in
       (ap (λ (a : Answer). a .refusal) is, rw is (up-lighter st s j m rest d))
-  delivered (Call.Down s j) e =
+  is-delivered (Call.Down s j) e =
       let (m, rest, d) = delivery s j (st .down s j) e in
       let is = down-done st s j d (down-room st s j rest m d (r .invariant)) in
       (ap (λ (a : Answer). a .refusal) is, rw is (down-lighter st s j m rest d))
-  delivered (Call.Release s) e = absurd (clash e refl)
-  delivered (Call.Withdraw s) e = absurd (clash e refl)
+  is-delivered (Call.Release s) e = absurd (clash e refl)
+  is-delivered (Call.Withdraw s) e = absurd (clash e refl)
 
 -- after each of them the same is said of the next
 all-done : (st : State) → Reached st → (calls : List Call) → onlyDeliveries st calls ≡ true → all isDone (run st calls) ≡ true
 unfolding onlyDeliveries run
 all-done st r [] e = refl
 all-done st r (c ∷ calls) e =
-    and-both (eq-eqb (call st c .refusal) 0 (delivered st r c (and-left (isDelivery st c) _ e) .0)) (all-done (call st c .state) (call-reached st c r) calls (and-right (isDelivery st c) _ e))
+    and-both (eq-eqb (call st c .refusal) 0 (is-delivered st r c (and-left (isDelivery st c) _ e) .0)) (all-done (call st c .state) (call-reached st c r) calls (and-right (isDelivery st c) _ e))
 
 -- ---- so there are no more of them than the state weighs
 
@@ -96,14 +96,14 @@ within-weight : (st : State) → Reached st → (calls : List Call) → onlyDeli
 unfolding onlyDeliveries
 within-weight st r [] e = omega arith
 within-weight st r (c ∷ calls) e =
-    let this = delivered st r c (and-left (isDelivery st c) _ e) in
+    let this = is-delivered st r c (and-left (isDelivery st c) _ e) in
     omega (arith, this .1, within-weight (call st c .state) (call-reached st c r) calls (and-right (isDelivery st c) _ e))
 
 -- a station weighs at most 3 × n + 2
-few-deliveries : (st : State) → Reached st → (calls : List Call) → onlyDeliveries st calls ≡ true → length calls ≤ mostDeliveries (st .n)
-few-deliveries st r calls e =
+pub weight-few : (st : State) → Reached st → weight st ≤ mostDeliveries (st .n)
+weight-few st r =
     let some = limits-kept (st .n) (askedWith (st .stock)) (st .table) (ranged st (r .range) .limits) .stations .0 in
-    omega (arith, within-weight st r calls e, weight-most st (r .invariant) (3 * st .n + 2) (omega arith) (omega arith))
+    omega (arith, weight-most st (r .invariant) (3 * st .n + 2) (omega arith) (omega arith))
 
 -- ---- while a message is under way there is such a delivery
 
@@ -120,12 +120,12 @@ some-delivery st e =
 comes-to-rest : (most : ℕ) (st : State) → Reached st → weight st ≤ most → (calls : List Call) × (onlyDeliveries st calls ≡ true) × (underWay (after st calls) ≡ false)
 unfolding onlyDeliveries after
 comes-to-rest zero st r l =
-    ⊎-elim (λ (t : underWay st ≡ true). let (c, e) = some-delivery st t in absurd (omega (arith, delivered st r c e .1))) (λ (f : underWay st ≡ false). ([], refl, f)) (known (underWay st))
+    ⊎-elim (λ (t : underWay st ≡ true). let (c, e) = some-delivery st t in absurd (omega (arith, is-delivered st r c e .1))) (λ (f : underWay st ≡ false). ([], refl, f)) (known (underWay st))
 comes-to-rest (suc most) st r l =
     ⊎-elim
     (λ (t : underWay st ≡ true).
     let (c, e) = some-delivery st t in
-    let (calls, only, end) = comes-to-rest most (call st c .state) (call-reached st c r) (omega (arith, delivered st r c e .1)) in
+    let (calls, only, end) = comes-to-rest most (call st c .state) (call-reached st c r) (omega (arith, is-delivered st r c e .1)) in
     (c ∷ calls, and-both e only, end))
     (λ (f : underWay st ≡ false). ([], refl, f))
     (known (underWay st))
@@ -210,7 +210,7 @@ nobody-waits n stock table kept calls =
     let st = after (fresh n stock table) calls in
     let r = calls-reached n stock table kept calls in
     record {
-      few = few-deliveries st r;
+      few = λ deliveries e. omega (arith, within-weight st r deliveries e, weight-few st r);
       next = some-delivery st;
       done = all-done st r;
       rests = comes-to-rest (weight st) st r (omega arith);

@@ -1,6 +1,7 @@
 -- In range, as facts of each station, arbiter and lane.
 -- Assumes nothing.
 use mathlib.Core.Bool.{true}
+use mathlib.Core.List.{List}
 use mathlib.Core.Path.{_≡_}
 use Prim.Native.Nat.{ℕ, _<_}
 use lib.Dec.{eqb}
@@ -10,8 +11,12 @@ use Rattle.lists.proofs.Searches.{every-true, every-at}
 use Rattle.lists.proofs.Tests.{and-left, and-right, and-both}
 use Rattle.quorum.specs.Limits.{brokenLimit}
 use Rattle.units.specs.Units.{askedWith}
-use Rattle.plain.specs.InRange.{upLane, downLane, phaseIn, arbiterIn, inRange}
+use Rattle.plain.specs.Inner.Passed.{Delivers}
+use Rattle.plain.specs.InRange.{goesUp, upLane, downLane, phaseIn, arbiterIn, inRange}
+use Rattle.plain.specs.Lanes.{upPlaces}
 use Rattle.plain.specs.State.{State}
+use Rattle.plain.specs.declared.Message.{Message}
+use Rattle.plain.proofs.LanesInRange.{keeps-first}
 
 pub record Ranged (st : State) : Type 0 where
   pub limits : brokenLimit (st .n) (askedWith (st .stock)) (st .table) ≡ 0
@@ -48,3 +53,7 @@ in-range st r =
     (and-both
     (every-true (λ s. everyBelow (λ j. upLane (st .stock) (st .up s j)) (st .n)) (st .n) (λ s p. every-true (λ j. upLane (st .stock) (st .up s j)) (st .n) (r .ups s p)))
     (every-true (λ s. everyBelow (λ j. downLane (st .down s j)) (st .n)) (st .n) (λ s p. every-true (λ j. downLane (st .down s j)) (st .n) (r .downs s p))))))
+
+-- a message that Up takes is one that goes up
+pub taken-goes-up : (st : State) (s j : ℕ) (m : Message) (rest : List Message) → Delivers st s j (st .up s j) m rest → goesUp (st .stock) m ≡ true
+taken-goes-up st s j m rest d = keeps-first upPlaces (goesUp (st .stock)) m rest (rw (d .taken) at (ranged st (d .range) .ups s (d .station) j (d .arbiter)))

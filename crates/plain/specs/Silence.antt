@@ -1,5 +1,5 @@
 -- Nobody waits on silence: deliveries of messages that exist, what is under way, and who waits for whom.
-use mathlib.Core.Bool.{Bool, true, false, not, _&&_, _||_}
+use mathlib.Core.Bool.{Bool, true, false, cond, not, _&&_, _||_}
 use mathlib.Core.List.{List, [], _∷_}
 use mathlib.Core.Path.{_≡_}
 use Prim.Native.Nat.{ℕ, _+_, _*_, _≤_, _<_}
@@ -47,6 +47,17 @@ onlyDeliveries st (c ∷ calls) = isDelivery st c && onlyDeliveries (call st c .
 -- whether a call was done, and not refused
 abbrev pub isDone : Answer → Bool
 isDone a = eqb (a .refusal) 0
+
+-- how many calls were, by their answers
+unfoldable pub doneIn : List Answer → ℕ
+doneIn [] = 0
+doneIn (a ∷ answers) = cond (isDone a) 1 0 + doneIn answers
+
+-- whether of these calls, so answered, all but Up and Down were refused
+unfoldable pub othersRefused : List Call → List Answer → Bool
+othersRefused [] answers = true
+othersRefused (c ∷ calls) [] = true
+othersRefused (c ∷ calls) (a ∷ answers) = (isUpOrDown c || not (isDone a)) && othersRefused calls answers
 
 -- "at most 3 × n × n + 2 × n of them"
 abbrev pub mostDeliveries : ℕ → ℕ

@@ -23,3 +23,11 @@ pub fn assert_quiet(r: &Record, place: &str) {
         assert!(!collects(r, s) || another, "{place}: station {s} waits");
     }
 }
+
+/// At every arbiter nobody waits, or the first in line does not fit.
+pub fn assert_served(r: &Record, place: &str) {
+    for (j, arbiter) in r.arbiters[..r.n].iter().enumerate() {
+        let fits = |&entry| arbiter.fits(r.n, r.stock, entry);
+        assert!(!arbiter.line.first().is_some_and(fits), "{place}: {j}");
+    }
+}

@@ -1,6 +1,6 @@
 //! All records that calls lead to from a fresh one, of few stations and a small stock.
 
-use super::quiet::assert_quiet;
+use super::quiet::{assert_quiet, assert_served};
 use model::machine::record::{Message, Phase, Record};
 use model::page::take_step;
 use model::steps::deliveries;
@@ -70,9 +70,10 @@ fn longest(record: &Record, known: &mut HashMap<Key, usize>) -> usize {
     if let Some(&found) = known.get(&key) {
         return found;
     }
+    assert_served(record, "one of all records");
     let found = deliveries(record);
     if found.is_empty() {
-        assert_quiet(record, &format!("{record:?}"));
+        assert_quiet(record, "one of all records");
     }
     let mut most = 0;
     for step in found {
