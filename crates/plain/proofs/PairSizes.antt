@@ -1,15 +1,15 @@
 -- A station and an arbiter: how many messages and entries are between them in each situation, and what these weigh. The weight of a state
 -- is a measure of the deliveries that are still to come: each makes it less.
 -- Assumes nothing.
-use mathlib.Core.Bool.{Bool, true, _&&_}
+use mathlib.Core.Bool.{true}
 use mathlib.Core.List.{List, [], _∷_}
 use mathlib.Core.Path.{_≡_, refl}
 use Prim.Native.Nat.{ℕ, _+_, _≤_}
 use lib.Dec.{leb}
 use lib.ListN.{length}
 use borrow.Author.Tests.{leb-true}
-use Rattle.lists.proofs.Tests.{and-left, and-right}
 use Rattle.units.specs.declared.Units.{Units}
+use Rattle.plain.specs.Withdrawn.{withdrawalsIn}
 use Rattle.plain.specs.declared.Message.{Message}
 use Rattle.plain.specs.declared.Message.the-variants.{Request, Release, Grant, Withdraw, Gone}
 use Rattle.plain.proofs.Pairs.{Part, Pair}
@@ -38,47 +38,55 @@ mostBetween (Part.waits h) = 3
 mostBetween (Part.has h) = 0
 mostBetween Part.leaves = 5
 
+-- how many of the messages are WITHDRAW or GONE
+abbrev pub withdrawalsFor : Part → ℕ
+withdrawalsFor Part.nothing = 0
+withdrawalsFor (Part.waits h) = 0
+withdrawalsFor (Part.has h) = 0
+withdrawalsFor Part.leaves = 1
+
 -- ---- the fourteen situations
 
-small : Part → List Message → List Units → List Message → Bool
-small p up w down = leb (length up) 3 && (leb (length w) 1 && (leb (length down) 2 && leb (between up w down) (mostBetween p)))
+abbrev Small : Part → List Message → List Units → List Message → Type 0
+Small p up w down =
+    (leb (length up) 3 ≡ true)
+    × (leb (length w) 1 ≡ true)
+    × (leb (length down) 2 ≡ true)
+    × (leb (between up w down) (mostBetween p) ≡ true)
+    × (withdrawalsIn up + withdrawalsIn down ≡ withdrawalsFor p)
 
-pair-small : {p : Part} {up : List Message} {w : List Units} {g : Units} {down : List Message} → Pair p up w g down → small p up w down ≡ true
-unfolding small
-pair-small Pair.clear = refl
-pair-small Pair.gave-back = refl
-pair-small Pair.asked = refl
-pair-small Pair.asked-again = refl
-pair-small Pair.in-line = refl
-pair-small Pair.granted = refl
-pair-small Pair.keeps = refl
-pair-small Pair.left-asked = refl
-pair-small Pair.left-asked-again = refl
-pair-small Pair.left-in-line = refl
-pair-small Pair.left-granted = refl
-pair-small Pair.left-having = refl
-pair-small Pair.gone = refl
-pair-small Pair.granted-gone = refl
+pair-small : {p : Part} {up : List Message} {w : List Units} {g : Units} {down : List Message} → Pair p up w g down → Small p up w down
+pair-small Pair.clear = (refl, refl, refl, refl, refl)
+pair-small Pair.gave-back = (refl, refl, refl, refl, refl)
+pair-small Pair.asked = (refl, refl, refl, refl, refl)
+pair-small Pair.asked-again = (refl, refl, refl, refl, refl)
+pair-small Pair.in-line = (refl, refl, refl, refl, refl)
+pair-small Pair.granted = (refl, refl, refl, refl, refl)
+pair-small Pair.keeps = (refl, refl, refl, refl, refl)
+pair-small Pair.left-asked = (refl, refl, refl, refl, refl)
+pair-small Pair.left-asked-again = (refl, refl, refl, refl, refl)
+pair-small Pair.left-in-line = (refl, refl, refl, refl, refl)
+pair-small Pair.left-granted = (refl, refl, refl, refl, refl)
+pair-small Pair.left-having = (refl, refl, refl, refl, refl)
+pair-small Pair.gone = (refl, refl, refl, refl, refl)
+pair-small Pair.granted-gone = (refl, refl, refl, refl, refl)
 
--- the lane up has at most three messages, the station at most one entry in the line, the lane down at most two messages
 module _ {p : Part} {up : List Message} {w : List Units} {g : Units} {down : List Message} (x : Pair p up w g down) where
+  -- the lane up has at most three messages,
   pub pair-up : length up ≤ 3
-  unfolding small
-  pair-up = leb-true (length up) 3 (and-left (leb (length up) 3) _ (pair-small x))
+  pair-up = leb-true (length up) 3 (pair-small x .0)
 
-  after-up : (leb (length w) 1 && (leb (length down) 2 && leb (between up w down) (mostBetween p))) ≡ true
-  unfolding small
-  after-up = and-right (leb (length up) 3) _ (pair-small x)
-
+  -- the station at most one entry in the line,
   pub pair-line : length w ≤ 1
-  pair-line = leb-true (length w) 1 (and-left (leb (length w) 1) _ after-up)
+  pair-line = leb-true (length w) 1 (pair-small x .1)
 
-  after-line : (leb (length down) 2 && leb (between up w down) (mostBetween p)) ≡ true
-  after-line = and-right (leb (length w) 1) _ after-up
-
+  -- and the lane down at most two messages
   pub pair-down : length down ≤ 2
-  pair-down = leb-true (length down) 2 (and-left (leb (length down) 2) _ after-line)
+  pair-down = leb-true (length down) 2 (pair-small x .2)
 
-  -- and together they weigh no more than that
+  -- what they weigh, and how many messages are of a withdrawal
   pub pair-weight : between up w down ≤ mostBetween p
-  pair-weight = leb-true (between up w down) (mostBetween p) (and-right (leb (length down) 2) _ after-line)
+  pair-weight = leb-true (between up w down) (mostBetween p) (pair-small x .3)
+
+  pub pair-withdrawals : withdrawalsIn up + withdrawalsIn down ≡ withdrawalsFor p
+  pair-withdrawals = pair-small x .4

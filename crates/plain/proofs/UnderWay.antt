@@ -17,55 +17,33 @@ use Rattle.units.specs.declared.Units.{Units}
 use Rattle.plain.specs.Run.{Call, after}
 use Rattle.plain.specs.State.{State, fresh}
 use Rattle.plain.specs.Withdrawn.{isWithdrawing, withdrawalsIn, withdrawalsOf}
-use Rattle.plain.specs.declared.Message.{Message}
 use Rattle.plain.specs.declared.Phase.{Phase}
 use Rattle.plain.specs.declared.Phase.the-variants.{Idle, Collecting, Holding, Withdrawing}
 use Rattle.plain.proofs.Invariant.{approaches, Invariant}
 use Rattle.plain.proofs.InvariantKept.{fresh-keeps, calls-keep}
-use Rattle.plain.proofs.Pairs.{Part, Pair}
+use Rattle.plain.proofs.Pairs.{Part}
+use Rattle.plain.proofs.PairSizes.{withdrawalsFor, pair-withdrawals}
 use Rattle.plain.proofs.Wants.{share, wants}
 
--- how many are between a station and an arbiter
-abbrev messages : Part → ℕ
-messages Part.nothing = 0
-messages (Part.waits h) = 0
-messages (Part.has h) = 0
-messages Part.leaves = 1
-
-pair-messages : {p : Part} {w : List Units} {g : Units} {up down : List Message} → Pair p up w g down → withdrawalsIn up + withdrawalsIn down ≡ messages p
-pair-messages Pair.clear = refl
-pair-messages Pair.gave-back = refl
-pair-messages Pair.asked = refl
-pair-messages Pair.asked-again = refl
-pair-messages Pair.in-line = refl
-pair-messages Pair.granted = refl
-pair-messages Pair.keeps = refl
-pair-messages Pair.left-asked = refl
-pair-messages Pair.left-asked-again = refl
-pair-messages Pair.left-in-line = refl
-pair-messages Pair.left-granted = refl
-pair-messages Pair.left-having = refl
-pair-messages Pair.gone = refl
-pair-messages Pair.granted-gone = refl
-
-share-messages : (table : List ℕ) (q : ℕ) (h : Units) (j : ℕ) → messages (share table q h j) ≡ 0
+-- WITHDRAW and GONE between a station and an arbiter of which it has units, or wants nothing
+share-messages : (table : List ℕ) (q : ℕ) (h : Units) (j : ℕ) → withdrawalsFor (share table q h j) ≡ 0
 unfolding share
-share-messages table q h j = either (λ p. messages p ≡ 0) (member (quorum table q) j) refl refl
+share-messages table q h j = either (λ p. withdrawalsFor p ≡ 0) (member (quorum table q) j) refl refl
 
 -- and between a station in a phase and all arbiters
-total-messages : (n : ℕ) (table : List ℕ) (a : ℕ) (p : Phase) → approaches n table a p ≡ true → total (λ j. messages (wants table a p j)) n ≡ cond (isWithdrawing p) 1 0
+total-messages : (n : ℕ) (table : List ℕ) (a : ℕ) (p : Phase) → approaches n table a p ≡ true → total (λ j. withdrawalsFor (wants table a p j)) n ≡ cond (isWithdrawing p) 1 0
 unfolding approaches wants at
 total-messages n table a Idle e = total-none (λ j. 0) n (λ j l. refl)
 total-messages n table a (Collecting q h m) e =
-    total-none (λ j. messages (wants table a (Collecting q h m) j)) n
-    (λ j l. either (λ p. messages p ≡ 0) (eqb j m) refl (either (λ p. messages p ≡ 0) (ltb j m) (share-messages table q h j) refl))
-total-messages n table a (Holding q h) e = total-none (λ j. messages (share table q h j)) n (λ j l. share-messages table q h j)
+    total-none (λ j. withdrawalsFor (wants table a (Collecting q h m) j)) n
+    (λ j l. either (λ p. withdrawalsFor p ≡ 0) (eqb j m) refl (either (λ p. withdrawalsFor p ≡ 0) (ltb j m) (share-messages table q h j) refl))
+total-messages n table a (Holding q h) e = total-none (λ j. withdrawalsFor (share table q h j)) n (λ j l. share-messages table q h j)
 total-messages n table a Withdrawing e =
-    omega (arith, total-at messages (λ j. Part.nothing) a Part.leaves n (ltb-true a n e), total-none (λ j. 0) n (λ j l. refl))
+    omega (arith, total-at withdrawalsFor (λ j. Part.nothing) a Part.leaves n (ltb-true a n e), total-none (λ j. 0) n (λ j l. refl))
 
 pub kept-messages : (st : State) → Invariant st → (s : ℕ) → withdrawalsOf st s ≡ cond (isWithdrawing (st .phase s)) 1 0
 kept-messages st i s =
-    total-same (λ j. withdrawalsIn (st .up s j) + withdrawalsIn (st .down s j)) (λ j. messages (wants (st .table) (i .leaving s) (st .phase s) j)) (st .n) (λ j l. pair-messages (i .pairs s j))
+    total-same (λ j. withdrawalsIn (st .up s j) + withdrawalsIn (st .down s j)) (λ j. withdrawalsFor (wants (st .table) (i .leaving s) (st .phase s) j)) (st .n) (λ j l. pair-withdrawals (i .pairs s j))
     ∙ total-messages (st .n) (st .table) (i .leaving s) (st .phase s) (i .members s)
 
 -- in every state that calls lead to from a fresh one, for every station
