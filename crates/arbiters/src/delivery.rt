@@ -15,7 +15,7 @@ use units::Units;
 
 // What a message makes of an arbiter. Granted are the first entries of the line. A refusal grants nothing and hands back the arbiter that was
 // given.
-#[derive(Drop)]
+#[derive(Clone, Copy)]
 pub struct Delivery {
     pub refusal: u8,
     pub arbiter: Arbiter,
@@ -23,7 +23,7 @@ pub struct Delivery {
     pub line: [Entry; LINE_PLACES],
 }
 
-#[derive(Drop)]
+#[derive(Clone, Copy)]
 pub(crate) struct Arrived {
     pub full: bool,
     pub arbiter: Arbiter,

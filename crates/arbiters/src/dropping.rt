@@ -11,7 +11,7 @@ use plain::Entry;
 use records::{Arbiter, LINE_PLACES};
 
 // A line without the entries of station s, and how many entries it has.
-#[derive(Drop)]
+#[derive(Clone, Copy)]
 struct Dropped {
     pub len: u8,
     pub line: [Entry; LINE_PLACES],

@@ -1,4 +1,6 @@
 // An arbiter's part of the machine: what one message makes of its record, by value.
+#![tactic(auto)]
+
 use records::Arbiter;
 
 mod delivery;
@@ -10,7 +12,7 @@ pub use delivery::deliver;
 pub use lending::settle;
 
 // What a station sends up to an arbiter.
-#[derive(Drop)]
+#[derive(Clone, Copy)]
 pub enum Upward {
     Request(usize),
     Release,
@@ -18,7 +20,7 @@ pub enum Upward {
 }
 
 // A message that reaches a station's own arbiter: the stock, the station that sent it, and the message.
-#[derive(Drop)]
+#[derive(Clone, Copy)]
 pub struct Incoming {
     pub stock: usize,
     pub station: usize,
@@ -27,14 +29,14 @@ pub struct Incoming {
 
 // What is answered to it: the refusal, and the set of stations granted.
 #[repr(C)]
-#[derive(Drop)]
+#[derive(Clone, Copy)]
 pub struct Reply {
     pub refusal: u8,
     pub granted: u16,
 }
 
 // The reply, and the arbiter's record after it.
-#[derive(Drop)]
+#[derive(Clone, Copy)]
 pub struct Settled {
     pub reply: Reply,
     pub arbiter: Arbiter,

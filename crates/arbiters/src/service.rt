@@ -10,7 +10,7 @@ use plain::Entry;
 use records::{Arbiter, LINE_PLACES};
 use units::Units;
 
-#[derive(Drop)]
+#[derive(Clone, Copy)]
 pub(crate) struct Service {
     pub arbiter: Arbiter,
     pub grants: usize,

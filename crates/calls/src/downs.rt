@@ -17,7 +17,7 @@ use records::{Lanes, Record, Station};
 use units::Units;
 
 // Of a GRANT: it asks the next member of its quorum, with so many members above that one, it holds its units, or it drops the message.
-#[derive(Drop)]
+#[derive(Clone, Copy)]
 pub(crate) enum Taking {
     Asks {
         quorum: u8,

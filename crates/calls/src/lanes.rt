@@ -8,7 +8,7 @@ ghost use Rattle.records.specs.View.{lane_of, row_of, lanes_of};
 use plain::Message;
 use records::{Lane, Lanes, Row, Slot};
 
-#[derive(Drop)]
+#[derive(Clone, Copy)]
 pub(crate) struct Oldest {
     pub message: Message,
     pub rest: Lane,

@@ -1,4 +1,6 @@
 // The five calls of a station on a record by value: each tests its refusals in their order, then does what is asked.
+#![tactic(auto)]
+
 ghost use Rattle.std.specs.Prelude.{◌≡◌, ◌<◌};
 ghost use Rattle.plain.specs.Answer.{nothing, refused as refused_by, done as done_with};
 ghost use Rattle.plain.specs.Down.{down as down_of};
@@ -25,7 +27,7 @@ mod withdrawals;
 
 // What a call answers; `above`, where REQUEST was sent, is the number of members above the one that it went to. A refused call has 0 in all three and
 // hands back the record that it was given.
-#[derive(Drop)]
+#[derive(Clone, Copy)]
 pub struct Answer {
     pub refusal: u8,
     pub entered: Units,

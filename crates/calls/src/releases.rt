@@ -14,7 +14,7 @@ use plain::{Message, Phase};
 use records::{Record, Row, Station, UP_PLACES};
 use units::Units;
 
-#[derive(Drop)]
+#[derive(Clone, Copy)]
 pub(crate) struct Released {
     pub full: bool,
     pub row: Row,

@@ -11,7 +11,7 @@ use crate::lanes;
 use plain::{Entry, Message};
 use records::{DOWN_PLACES, LINE_PLACES, Lanes};
 
-#[derive(Drop)]
+#[derive(Clone, Copy)]
 pub(crate) struct Sent {
     pub full: bool,
     pub lanes: Lanes,

@@ -12,7 +12,7 @@ use plain::Message;
 use records::Lanes;
 
 // The message, and all lanes without it; or the refusal where there is no such message.
-#[derive(Drop)]
+#[derive(Clone, Copy)]
 pub(crate) struct Found {
     pub refusal: u8,
     pub message: Message,

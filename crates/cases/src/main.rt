@@ -1,5 +1,7 @@
 // Runs the examples of documents 01 and 02 that are tables and prints what each answers, one line an example, and one more for the outages that its
 // table survives.
+#![tactic(auto)]
+
 mod counts;
 mod even;
 mod makers;

@@ -1,1 +1,2 @@
 // Lists: only definitions and laws.
+#![tactic(auto)]

@@ -1,4 +1,6 @@
 // The machine: a fresh record of an accepted table, and lists of calls on a record.
+#![tactic(auto)]
+
 ghost use Rattle.std.specs.Prelude.{◌≡◌, ◌<◌, length};
 ghost use Rattle.quorum.specs.Answer.{said, answer};
 ghost use Rattle.quorum.specs.Scratch.{cleaned};
@@ -39,21 +41,21 @@ pub const DO_WITHDRAW: u16 = 4;
 pub const WORDS_OF_DO: u16 = 5;
 
 // What a list of calls answers besides the numbers: whether the list was refused, and the record after it.
-#[derive(Drop)]
+#[derive(Clone, Copy)]
 pub struct Performed {
     pub refusal: u8,
     pub record: Record,
 }
 
 // What opening answers with all that the check says of the table.
-#[derive(Drop)]
+#[derive(Clone, Copy)]
 pub struct Inspected {
     pub checked: Checked,
     pub record: Record,
 }
 
 // What opening answers.
-#[derive(Drop)]
+#[derive(Clone, Copy)]
 pub struct Opened {
     pub refusal: u8,
     pub record: Record,

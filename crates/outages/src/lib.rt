@@ -1,4 +1,6 @@
 // Outages that a table survives: how many sets of working stations of each size contain a whole quorum.
+#![tactic(auto)]
+
 ghost use Rattle.std.specs.Prelude.{◌≡◌, length};
 ghost use Rattle.quorum.specs.Scratch.{cleaned};
 ghost use Rattle.outages.specs.Answer.{answer, laid};
@@ -11,7 +13,7 @@ pub const SIZES: usize = quorum::MOST_STATIONS + 1;
 
 // The refusal, and the counts: the first `size` places of the array, the one of number u for the sets of u stations. All other places are 0.
 #[repr(C)]
-#[derive(Drop)]
+#[derive(Clone, Copy)]
 pub struct Counted {
     pub refusal: u8,
     pub size: usize,

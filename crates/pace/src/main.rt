@@ -1,5 +1,7 @@
 // Many calls on a record of twelve stations, to measure what a call costs: one quorum of all stations, so each round of a station visits
 // every arbiter to collect and again to give back.
+#![tactic(auto)]
+
 use libc::STDOUT_FILENO;
 use records::Record;
 
@@ -8,7 +10,7 @@ const ROUNDS: usize = 5000;
 const CALLS_A_ROUND: usize = 38;
 
 // Units entered and left, the number of calls refused, and the record.
-#[derive(Drop)]
+#[derive(Clone, Copy)]
 struct Tally {
     entered: usize,
     left: usize,

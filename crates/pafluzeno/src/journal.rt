@@ -14,7 +14,7 @@ use journal_writing::{Printed, Written};
 
 // A part of a lent text: where it begins, and its bytes.
 #[repr(C)]
-#[derive(Drop)]
+#[derive(Clone, Copy)]
 pub struct Part {
     pub place: usize,
     pub len: usize,

@@ -1,4 +1,6 @@
 // The calls that a station makes from C or Rust, under the names of interface/pafluzeno.h.
+#![tactic(auto)]
+
 ghost use Rattle.std.specs.Prelude.{◌≡◌, ◌<◌, length};
 ghost use Rattle.arbiters.specs.Lent.{lent_of};
 ghost use Rattle.outages.specs.Answer.{laid, answer as outages_of};
@@ -38,7 +40,7 @@ pub const MESSAGES: u8 = 3;
 
 // A message that reaches a station's own arbiter: the stock, the station that sent it, the number of the message, and the units of a REQUEST.
 #[repr(C)]
-#[derive(Drop)]
+#[derive(Clone, Copy)]
 pub struct Arrival {
     pub stock: usize,
     pub station: usize,

@@ -1,8 +1,10 @@
 // The plain machine: what messages, stations and lines are made of. The machine itself stands in the definitions.
+#![tactic(auto)]
+
 use units::Units;
 
 // REQUEST, RELEASE and WITHDRAW go up from a station to an arbiter, GRANT and GONE come down.
-#[derive(Drop)]
+#[derive(Clone, Copy)]
 pub enum Message {
     Request(Units),
     Release,
@@ -13,7 +15,7 @@ pub enum Message {
 
 // What a station does: nothing, collect permission for so many units from the members of a quorum, hold them, or wait for GONE, having
 // withdrawn.
-#[derive(Drop)]
+#[derive(Clone, Copy)]
 pub enum Phase {
     Idle,
     Collecting {
@@ -30,7 +32,7 @@ pub enum Phase {
 
 // A place in an arbiter's line.
 #[repr(C)]
-#[derive(Drop)]
+#[derive(Clone, Copy)]
 pub struct Entry {
     pub station: u8,
     pub units: Units,

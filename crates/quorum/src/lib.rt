@@ -1,4 +1,6 @@
 // The check of a quorum table: it accepts exactly the k-arbiters of RR-2523 within document 01's limits.
+#![tactic(auto)]
+
 ghost use Rattle.std.specs.Prelude.{◌≡◌, cond, ◌&&◌, ◌+◌, ◌≤◌, leb, length, drop, get_or};
 ghost use Rattle.stations.specs.Sets.{everyone};
 ghost use Rattle.quorum.specs.Answer.{refused as refused_by, answer_to, answer, said};
@@ -28,7 +30,7 @@ pub const SCRATCH_BYTES: usize = 4096;
 
 // What the check answers. The family is the first `size` places of its array.
 #[repr(C)]
-#[derive(Drop)]
+#[derive(Clone, Copy)]
 pub struct Checked {
     pub refusal: u8,
     pub width: usize,

@@ -1,5 +1,7 @@
 // The machine's record, and the test whether it is in range. A caller may make a record by hand with any content: places of
 // an array beyond its length, and what belongs to stations from n on, are no part of it.
+#![tactic(auto)]
+
 ghost use Rattle.std.specs.Prelude.{◌&&◌, ◌≡◌, leb};
 ghost use Rattle.plain.specs.InRange.{in_range, arbiter_in as arbiter_in_rule};
 ghost use Rattle.quorum.specs.Limits.{most_stations};
@@ -23,45 +25,45 @@ pub const UP_PLACES: usize = 4;
 
 pub const DOWN_PLACES: usize = 2;
 
-#[derive(Drop)]
+#[derive(Clone, Copy)]
 pub struct Slot {
     pub message: Message,
 }
 
 // Messages under way from a station to an arbiter, or back, oldest first.
-#[derive(Drop)]
+#[derive(Clone, Copy)]
 pub struct Lane {
     pub len: u8,
     pub slots: [Slot; UP_PLACES],
 }
 
 // The lanes of one station, by arbiter.
-#[derive(Drop)]
+#[derive(Clone, Copy)]
 pub struct Row {
     pub lanes: [Lane; STATIONS],
 }
 
 // The lanes of all stations.
-#[derive(Drop)]
+#[derive(Clone, Copy)]
 pub struct Lanes {
     pub rows: [Row; STATIONS],
 }
 
-#[derive(Drop)]
+#[derive(Clone, Copy)]
 pub struct Station {
     pub phase: Phase,
 }
 
 // The units granted to each station, and the line of those that wait, oldest first.
 #[repr(C)]
-#[derive(Drop)]
+#[derive(Clone, Copy)]
 pub struct Arbiter {
     pub granted: [Units; STATIONS],
     pub len: u8,
     pub line: [Entry; LINE_PLACES],
 }
 
-#[derive(Drop)]
+#[derive(Clone, Copy)]
 pub struct Record {
     pub n: u8,
     pub stock: Units,

@@ -1,4 +1,6 @@
 // The refusals by document 01's numbers, each said once. 0 refuses nothing.
+#![tactic(auto)]
+
 pub const NO_REFUSAL: u8 = 0;
 
 // n outside 1..12

@@ -1,4 +1,6 @@
 // Runs the examples of document 01 that are calls of the machine, one line a call.
+#![tactic(auto)]
+
 mod full;
 mod grants;
 mod marked;

@@ -1,4 +1,6 @@
 // Sets of stations as 16-bit masks: station i is a member exactly when bit i, worth 2^i, is one.
+#![tactic(auto)]
+
 ghost use Rattle.std.specs.Prelude.{◌≡◌, min};
 ghost use Rattle.std.specs.Int.Bits.{bit_and};
 ghost use Rattle.stations.specs.Member.{member};
@@ -9,7 +11,7 @@ pub const PLACES: usize = 16;
 
 // A member of a set, and how many members lie above it.
 #[repr(C)]
-#[derive(Drop)]
+#[derive(Clone, Copy)]
 pub struct NextMember {
     pub member: usize,
     pub above: usize,

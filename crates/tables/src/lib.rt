@@ -1,4 +1,6 @@
 // Ready-made tables, which need no search: each is a k-arbiter of RR-2523.
+#![tactic(auto)]
+
 ghost use Rattle.std.specs.Prelude.{◌≡◌, length};
 ghost use Rattle.tables.specs.Made.{answer, written, said};
 ghost use Rattle.tables.specs.Singleton.{singleton_table, singleton_refusal};
@@ -12,7 +14,7 @@ mod uniforms;
 
 // What the maker of a table answers: the refusal, and the number of quorums written, 0 on a refusal.
 #[repr(C)]
-#[derive(Drop)]
+#[derive(Clone, Copy)]
 pub struct Made {
     pub refusal: u8,
     pub quorums: usize,

@@ -1,4 +1,6 @@
 // Units: what a station asks for, what an arbiter grants, what the stock has. A second stock is a second field.
+#![tactic(auto)]
+
 ghost use Rattle.std.specs.Prelude.{◌≡◌};
 ghost use Rattle.units.specs.Units.{no_units as no_units_rule, request_in as request_in_rule, grant_in as grant_in_rule, asked_with as asked_with_rule, units_of as units_of_rule, stock_of as stock_of_rule, number_of, storable};
 
@@ -10,7 +12,7 @@ pub use fitting::fits;
 pub const STATIONS: usize = quorum::MOST_STATIONS;
 
 #[repr(C)]
-#[derive(Drop)]
+#[derive(Clone, Copy)]
 pub struct Units {
     pub positions: u8,
 }

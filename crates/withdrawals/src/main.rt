@@ -1,4 +1,6 @@
 // Runs the examples of withdrawing, one line a call.
+#![tactic(auto)]
+
 mod by_calls;
 mod gone;
 mod ranges;
