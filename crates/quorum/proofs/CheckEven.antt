@@ -11,7 +11,7 @@ use lib.Dec.{eqb}
 use lib.ListN.{length}
 use borrow.Author.Tests.{eqb-true, eq-eqb}
 use contract.Lifetimes.{Lfts}
-use denote.Ref.{Bor}
+use denote.Ref.{Bor, MutBor}
 use Rattle.lists.proofs.Searches.{every_true, every_at, all_true, all-at}
 use Rattle.lists.proofs.Tests.{known, and_left, and_right, or_left, or_right, or_cases}
 use Rattle.stations.specs.Sets.{size}
@@ -84,7 +84,7 @@ said-even n k table room checked e =
 
 -- A call of `check`, with any numbers and slices, is known by what the checker has learnt of it: its contract, and nothing else. `left` is the
 -- scratch afterwards.
-pub check_even : (n k : ℕ) (quorums scratch left : Bor (List ℕ)) (checked : Checked) (κs : Lfts 2)
+pub check_even : (n k : ℕ) (quorums : Bor (List ℕ)) (scratch left : MutBor (List ℕ)) (checked : Checked) (κs : Lfts 2)
     → check.Learnt κs (n, (k, (quorums, (scratch, tt)))) checked (n, (k, (quorums, (left, tt))))
     → (checked.even ≡ 1) ↔ (((checked.refusal ≡ 0) ⊎ (checked.refusal ≡ 6)) × SomeSymmetric n quorums.now)
 unfolding asked

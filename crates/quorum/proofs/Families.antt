@@ -66,6 +66,7 @@ module _ (b : ℕ) where
       }
     where
       none : (g : List ℕ) → Family b a g → length g ≡ suc w → P g ≡ true → Before g (a ∷ f) → ⊥
+      none _ Family.none e t before = elim before [ ]
       none g (Family.and le l rest) e t (Before.here less) = omega arith
       none g (Family.and le l rest) e t (Before.there {g = h} before) = first.none_before h rest (omega arith) t before
 

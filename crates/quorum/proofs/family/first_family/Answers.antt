@@ -30,7 +30,7 @@ bounds-bytes-rest c = omega (arith, pow_mono {i = c.args.n} {j = 12} (omega arit
 pub bounds-family-size : goal.bounds-family-size
 bounds-family-size c =
     let at = c.loop-p in
-    taking_room c.args.n c.args.quorums.now c.args.bytes.now (omega arith) c.requires.needs.0 (omega arith) c.requires.needs.1 at.family at.size at.rest at.p at.invariant
+    taking_room c.args.n c.args.quorums.now c.args.bytes.now (omega arith) c.requires.needs (omega arith) c.requires.fact at.family at.size at.rest at.p at.invariant
     (get_or c.args.bytes.now c.common-left.result 0) c.if-bytes-left.true
 
 pub overflow_add-size : goal.overflow_add-size
@@ -45,13 +45,13 @@ loop-p-preserved c =
     let left = c.common-left.result in
     let is = c.common-left.ensures in
     elim c.if-bytes-left.branch [
-      | then-bytes-left w ↦ rw (w.1, w.2, w.3)
-          (taking_takes n table bytes (omega arith) c.requires.needs.0 (omega arith) c.requires.needs.1 at.family at.size at.rest at.p at.invariant (omega arith) left is w.if-bytes-left.true)
-      | else-bytes-left w ↦ rw (w.1, w.2, w.3)
-          (taking_skips n table bytes (omega arith) c.requires.needs.0 (omega arith) c.requires.needs.1 at.family at.size at.rest at.p at.invariant (omega arith) left is w.if-bytes-left.false)
+      | then-bytes-left w ↦ rw (w.family-is, w.size-is, w.rest-is)
+          (taking_takes n table bytes (omega arith) c.requires.needs (omega arith) c.requires.fact at.family at.size at.rest at.p at.invariant (omega arith) left is w.if-bytes-left.true)
+      | else-bytes-left w ↦ rw (w.family-is, w.size-is, w.rest-is)
+          (taking_skips n table bytes (omega arith) c.requires.needs (omega arith) c.requires.fact at.family at.size at.rest at.p at.invariant (omega arith) left is w.if-bytes-left.false)
     ]
 
 pub returns : goal.returns
 returns c =
     let at = c.loop-p in
-    taking_all c.args.n c.args.quorums.now c.args.bytes.now (omega arith) c.requires.needs.0 (omega arith) c.requires.needs.1 at.family at.size at.rest at.p at.invariant (omega arith)
+    taking_all c.args.n c.args.quorums.now c.args.bytes.now (omega arith) c.requires.needs (omega arith) c.requires.fact at.family at.size at.rest at.p at.invariant (omega arith)

@@ -11,7 +11,7 @@ use borrow.Author.Tests.{eq-eqb, ne_eqb}
 use Rattle.quorum.specs.Inner.Need.{no_need, least_byte, one_more}
 use Rattle.quorum.proofs.Needing.{least-next, least_end, least-low}
 use Rattle.quorum.proofs.need.through_one.Goals as goal
-use Rattle.quorum.proofs.need.through_one.Goals.{else-byte-least, then-byte-least}
+use Rattle.quorum.proofs.need.through_one.Goals.{else-byte-least, then-byte-least+else-byte-low}
 
 pub returns-then-low-eq-NO_NEED : goal.returns-then-low-eq-NO_NEED
 returns-then-low-eq-NO_NEED c =
@@ -50,7 +50,7 @@ loop-p-preserved c =
     let table = start.quorums.now in
     let byte : get_or bytes c.common-left.result 0 ≡ get_or bytes (bit_and start.set (get_or table at.p 0)) 0 = ap (λ (x : ℕ). get_or bytes x 0) left in
     let next : c.if-byte-least.least ≡ min at.least (get_or bytes (bit_and start.set (get_or table at.p 0)) 0) =
-    elim c.if-byte-least.branch [ then-byte-least w ↦ omega arith | else-byte-least w ↦ omega arith ] in
+    elim c.if-byte-least.branch [ then-byte-least+else-byte-low w ↦ omega arith | else-byte-least w ↦ omega arith ] in
     (search rules, omega arith, ap (λ (b : ℕ). least_byte bytes start.set b (drop (at.p + 1) table)) next ∙ sym (least-next bytes start.set at.least table at.p (omega arith)) ∙ at.invariant.2)
 
 pub returns-then-least : goal.returns-then-least

@@ -5,7 +5,6 @@ use Prim.Native.Nat.{◌-◌}
 use native.Mathlib.Omega.{arith}
 use lib.ListN.{length}
 use borrow.Author.Rules.{rules}
-use borrow.Author.Tests.{not-true, not-false}
 use Rattle.quorum.proofs.Leaving.{leaving_skips, leaving_takes, leaving_all}
 use Rattle.quorum.proofs.without.without.Goals as goal
 use Rattle.quorum.proofs.without.without.Goals.{else-not-has, then-not-has}
@@ -24,7 +23,7 @@ loop-p-preserved c =
     let st = c.args in
     let at = c.loop-p in
     let member = c.has.ensures in
-    elim c.if-not-has.branch [ then-not-has w ↦ rw (w.1, w.2) (leaving_takes st.i st.quorums.now (length st.found.now) at.found at.len at.p at.invariant (omega arith) (omega arith) (sym member ∙ not-true _ w.if-not-has.true)) | else-not-has w ↦ rw (w.1, w.2) (leaving_skips st.i st.quorums.now (length st.found.now) at.found at.len at.p at.invariant (omega arith) (omega arith) (sym member ∙ not-false _ w.if-not-has.false)) ]
+    elim c.if-not-has.branch [ then-not-has w ↦ rw (w.found-is, w.len-is) (leaving_takes st.i st.quorums.now (length st.found.now) at.found at.len at.p at.invariant (omega arith) (omega arith) (sym member ∙ w.if-not-has.true)) | else-not-has w ↦ rw (w.found-is, w.len-is) (leaving_skips st.i st.quorums.now (length st.found.now) at.found at.len at.p at.invariant (omega arith) (omega arith) (sym member ∙ w.if-not-has.false)) ]
 
 pub shape_of-found : goal.shape_of-found
 shape_of-found c = c.loop-p.invariant.places
