@@ -1,0 +1,37 @@
+-- `tables::cubes::quorum_of` meets its contract. The loop's invariant: the stations below q that agree with p.
+-- Assumes nothing.
+use mathlib.Core.Path.{ap₂, ◌≡◌, refl, sym, ap, ◌∙◌}
+use Prim.Native.Nat.{suc, ◌+◌, ◌-◌, ◌≤◌}
+use native.Mathlib.Omega.{arith}
+use lib.Pow.{pow_mono}
+use Rattle.stations.proofs.Built.{set_below, set_pass, set_fail, only_below}
+use Rattle.tables.specs.Cube.{cube_stations, agree, cube_quorum}
+use Rattle.stations.specs.Sets.{set_of}
+use Rattle.tables.proofs.cubes.quorum_of.Goals as goal
+use Rattle.tables.proofs.cubes.quorum_of.Goals.{else-agree, then-agree}
+
+pub loop-q-init : goal.loop-q-init
+unfolding set_of
+loop-q-init c = (omega arith, omega arith, refl)
+
+pub overflow_add-quorum : goal.overflow_add-quorum
+overflow_add-quorum c =
+    let at = c.loop-q in
+    let f = agree c.args.a (c.args.k + 1) c.args.p in
+    record { fits = omega (arith, at.invariant.2, c.only-quorum.ensures, only_below at.q (omega (arith, at.invariant.1)), set_below f at.q, pow_mono {i = suc at.q} {j = 16} (omega (arith, at.invariant.1))) }
+
+pub loop-q-preserved : goal.loop-q-preserved
+loop-q-preserved c =
+    let at = c.loop-q in
+    let f = agree c.args.a (c.args.k + 1) c.args.p in (
+      omega arith,
+      omega arith,
+      elim c.if-agree.branch [ then-agree w ↦ w.2 ∙ ap₂ ◌+◌ at.invariant.2 (w.1.ensures ∙ only_below at.q (omega (arith, at.invariant.1))) ∙ set_pass f at.q (sym c.agree.ensures ∙ w.if-agree.true) | else-agree w ↦ w.1 ∙ at.invariant.2 ∙ set_fail f at.q (sym c.agree.ensures ∙ w.if-agree.false) ],
+    )
+
+pub returns : goal.returns
+unfolding cube_quorum
+returns c =
+    let at = c.loop-q in
+    let end : at.q ≡ cube_stations c.args.a c.args.k = omega arith in
+    at.invariant.2 ∙ ap (set_of (agree c.args.a (c.args.k + 1) c.args.p)) end
