@@ -97,6 +97,8 @@ pub line-served : {p : Part} {g : Units} {up down : List Message} (a b : List Un
 line-served [] b x = rw (append-nil _) x
 line-served (h ∷ []) [] Pair.in_line = Pair.granted
 line-served (h ∷ []) [] Pair.left_in-line = Pair.left-granted
+line-served {p = p} {g = g} {up = up} {down = down} (h ∷ []) (_ ∷ _) x = elim x [ ]
+line-served {p = p} {g = g} {up = up} {down = down} (h ∷ (_ ∷ _)) b x = elim x [ ]
 
 -- ---- nothing is under way between them
 

@@ -176,7 +176,7 @@ module _ (st : State) (s j : ℕ) (m : Message) (rest : List Message) (d : Deliv
             t y (λ o. b.ups t l y c);
         downs = rest_in;
       }
-  taken_ranged (Taken.holds q h) e room =
+  taken_ranged (Taken.holds q h) e _ =
       let b = in_range_before in
       record {
         limits = b.limits;
@@ -185,7 +185,7 @@ module _ (st : State) (s j : ℕ) (m : Message) (rest : List Message) (d : Deliv
         ups = b.ups;
         downs = rest_in;
       }
-  taken_ranged Taken.idles e room =
+  taken_ranged Taken.idles e _ =
       let b = in_range_before in
       record {
         limits = b.limits;
