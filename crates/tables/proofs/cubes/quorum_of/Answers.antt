@@ -1,7 +1,7 @@
 -- `tables::cubes::quorum_of` meets its contract. The loop's invariant: the stations below q that agree with p.
 -- Assumes nothing.
 use mathlib.Core.Path.{ap₂, ◌≡◌, refl, sym, ap, ◌∙◌}
-use Prim.Native.Nat.{suc, ◌+◌, ◌-◌, ◌≤◌}
+use Prim.Native.Nat.{suc, ◌+◌}
 use native.Mathlib.Omega.{arith}
 use lib.Pow.{pow_mono}
 use Rattle.stations.proofs.Built.{set_below, set_pass, set_fail, only_below}

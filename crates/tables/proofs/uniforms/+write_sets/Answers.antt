@@ -1,6 +1,6 @@
 -- `tables::uniforms::write_sets`, which calls itself, meets its contract. The measure is n.
 -- Assumes nothing.
-use mathlib.Core.Path.{refl, ap, ◌∙◌}
+use mathlib.Core.Path.{ap, ◌∙◌}
 use Prim.Native.Nat.{◌-◌}
 use native.Mathlib.Omega.{arith}
 use lib.Pow.{pow_pos}
