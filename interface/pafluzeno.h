@@ -1,7 +1,7 @@
 /* The calls of a station: the check of a quorum table, ready-made tables, the outages that a table survives, the arbiter of the station's own
  * record, and the journal.
- * They stand in target/staticlib/libpafluzeno.a, which `rt staticlib pafluzeno` proves and writes (x86-64). It needs two functions of C, memcpy
- * and memset, and nothing else; it takes no memory but what it is lent and the stack, and remembers nothing from one call to the next.
+ * They stand in crates/pafluzeno/out/libpafluzeno.a, which `rt lib` in crates/pafluzeno proves and writes (x86-64). It needs two functions of C,
+ * memcpy and memset, and nothing else; it takes no memory but what it is lent and the stack, and remembers nothing from one call to the next.
  *
  * A table, a key and a text are lent to be read; scratch, a buffer and an arbiter's record are lent to be written; no call keeps any of them.
  * Every call ends and answers for all numbers and all contents of what it is lent, good or bad. What the caller owes is C's own: a pointer
