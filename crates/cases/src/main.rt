@@ -12,11 +12,13 @@ mod refusals;
 mod report;
 mod table;
 
-fn main() {
-    marked::tables();
-    refusals::tables();
-    even::tables();
-    order::tables();
-    makers::tables();
-    ready::tables();
+use std::io;
+
+fn main(rt: HostRuntime) -> io::Result<()> {
+    marked::tables(&rt)?;
+    refusals::tables(&rt)?;
+    even::tables(&rt)?;
+    order::tables(&rt)?;
+    makers::tables(&rt)?;
+    ready::tables(&rt)
 }
