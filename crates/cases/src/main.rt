@@ -8,7 +8,7 @@ mod makers;
 mod marked;
 mod order;
 mod ready;
-mod refusals;
+mod refused;
 mod report;
 mod table;
 
@@ -16,7 +16,7 @@ use std::io;
 
 fn main(rt: HostRuntime) -> io::Result<()> {
     marked::tables(&rt)?;
-    refusals::tables(&rt)?;
+    refused::tables(&rt)?;
     even::tables(&rt)?;
     order::tables(&rt)?;
     makers::tables(&rt)?;
