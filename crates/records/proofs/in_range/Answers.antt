@@ -18,12 +18,8 @@ use Rattle.records.proofs.in_range.Goals.{Else-not-limits_kept}
 few : (r : Record) → eqb (broken_limit r.n (asked_with r.stock) (table_of r)) 0 ≡ true → r.n ≤ most_stations
 few r e = (limits_kept r.n (asked_with r.stock) (table_of r) (eqb-true (broken_limit r.n (asked_with r.stock) (table_of r)) 0 e)).stations.1
 
--- the record that is tested
-abbrev given : Else-not-limits_kept → Record
-given c = c.args.r
-
 -- its limits are kept
-kept : (c : Else-not-limits_kept) → eqb (broken_limit (given c).n (asked_with (given c).stock) (table_of (given c))) 0 ≡ true
+kept : (c : Else-not-limits_kept) → eqb (broken_limit c.args.r.n (asked_with c.args.r.stock) (table_of c.args.r)) 0 ≡ true
 kept c = rw (sym c.asked_with.ensures) (sym c.limits_kept.ensures ∙ c.if-not-limits_kept.false)
 
 pub returns-then-not-limits_kept : goal.returns-then-not-limits_kept
@@ -33,23 +29,23 @@ returns-then-not-limits_kept c = rw (sym c.asked_with.ensures, sym c.limits_kept
 pub returns-then-not-stations_in : goal.returns-then-not-stations_in
 unfolding in_range view
 returns-then-not-stations_in c =
-    rw (kept (goal.at.returns-then-not-stations_in c).Else-not-limits_kept, sym (c.stations_in.ensures (table_of (given c)) (length_cut 0 _ _)) ∙ c.if-not-stations_in.true)
+    rw (kept (goal.at.returns-then-not-stations_in c).Else-not-limits_kept, sym (c.stations_in.ensures (table_of c.args.r) (length_cut 0 _ _)) ∙ c.if-not-stations_in.true)
 
 pub arbiters_in-requires : goal.arbiters_in-requires
-arbiters_in-requires c = let l = c.before.before.before.before in few (given l) (kept l)
+arbiters_in-requires c = few c.args.r (kept (goal.at.arbiters_in-requires c).Else-not-limits_kept)
 
 pub returns-then-not-arbiters_in : goal.returns-then-not-arbiters_in
 unfolding in_range view
 returns-then-not-arbiters_in c =
-    rw (kept (goal.at.returns-then-not-arbiters_in c).Else-not-limits_kept, sym (c.stations_in.ensures (table_of (given c)) (length_cut 0 _ _)) ∙ c.if-not-stations_in.false, sym c.arbiters_in.ensures ∙ c.if-not-arbiters_in.true)
+    rw (kept (goal.at.returns-then-not-arbiters_in c).Else-not-limits_kept, sym (c.stations_in.ensures (table_of c.args.r) (length_cut 0 _ _)) ∙ c.if-not-stations_in.false, sym c.arbiters_in.ensures ∙ c.if-not-arbiters_in.true)
 
 pub both_in-requires : goal.both_in-requires
-both_in-requires c = let l = c.before.before.before.before.before.before in few (given l) (kept l)
+both_in-requires c = few c.args.r (kept (goal.at.both_in-requires c).Else-not-limits_kept)
 
 pub returns : goal.returns
 unfolding in_range view
 returns c =
-    rw (kept (goal.at.returns c).Else-not-limits_kept, sym (c.stations_in.ensures (table_of (given c)) (length_cut 0 _ _)) ∙ c.if-not-stations_in.false, sym c.arbiters_in.ensures ∙ c.if-not-arbiters_in.false) c.both_in.ensures
+    rw (kept (goal.at.returns c).Else-not-limits_kept, sym (c.stations_in.ensures (table_of c.args.r) (length_cut 0 _ _)) ∙ c.if-not-stations_in.false, sym c.arbiters_in.ensures ∙ c.if-not-arbiters_in.false) c.both_in.ensures
 
 pub stations_in-requires : goal.stations_in-requires
-stations_in-requires c κs = few (given c.before) (kept c.before)
+stations_in-requires c = few c.args.r (kept (goal.at.stations_in-requires c).Else-not-limits_kept)

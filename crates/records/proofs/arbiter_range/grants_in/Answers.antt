@@ -1,12 +1,17 @@
 -- `records::arbiter_range::grants_in` meets its contract. All stations before the one in hand have units in range.
 -- Assumes nothing.
+use mathlib.Core.Logic.{inl, inr}
 use mathlib.Core.Path.{sym, ◌∙◌}
 use Prim.Native.Nat.{◌-◌}
-use Rattle.lists.proofs.Searches.{tested_more, tested_left}
+use Rattle.lists.proofs.Searches.{tested_none, tested_more, tested_left}
 use Rattle.records.proofs.arbiter_range.grants_in.Goals as goal
+use Rattle.records.proofs.arbiter_range.grants_in.Goals.{then-loop-s-test+else-grant_in, else-loop-s-test}
+
+pub loop-s-init : goal.loop-s-init
+loop-s-init c = search tested_none
 
 pub loop-s-preserved : goal.loop-s-preserved
 loop-s-preserved c = search tested_more
 
 pub returns : goal.returns
-returns c = tested_left c.loop-s.invariant (λ w. sym w.2.ensures ∙ w.3.left) (λ w. w.left) c.loop-s-test.branch
+returns c = elim c.loop-s-test.branch [ then-loop-s-test+else-grant_in w ↦ tested_left c.loop-s.invariant (λ x. x) (λ x. x) (inl (sym w.grant_in.ensures ∙ w.if-grant_in.false)) | else-loop-s-test w ↦ tested_left c.loop-s.invariant (λ x. x) (λ x. x) (inr w.loop-s-test.false) ]

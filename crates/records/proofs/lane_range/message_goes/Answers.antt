@@ -8,20 +8,24 @@ use Rattle.records.proofs.lane_range.message_goes.Goals as goal
 
 pub returns-then-upward : goal.returns-then-upward
 unfolding goes_up
-returns-then-upward c = rw (c.if-upward.true, c.m.given.1) c.request_in.ensures
+returns-then-upward c = rw (c.if-upward.true, c.in-Request.is) c.request_in.ensures
 
 pub returns-else-upward : goal.returns-else-upward
 unfolding goes_down
-returns-else-upward c = rw (c.if-upward.false, c.m.given.1)
+returns-else-upward c = rw (c.if-upward.false, c.in-Request.is)
 
 pub returns-in-Release : goal.returns-in-Release
-returns-in-Release c = rw c.enum_told.given.1 (only-up Release c.args.upward c.args.stock refl refl)
+unfolding goes_up goes_down
+returns-in-Release c = rw c.in-Release.is (only-up Release c.args.upward c.args.stock refl refl)
 
 pub returns-in-Grant : goal.returns-in-Grant
-returns-in-Grant c = rw c.enum-told2.given.1 (only-down Grant c.args.upward c.args.stock refl refl)
+unfolding goes_up goes_down
+returns-in-Grant c = rw c.in-Grant.is (only-down Grant c.args.upward c.args.stock refl refl)
 
 pub returns-in-Withdraw : goal.returns-in-Withdraw
-returns-in-Withdraw c = rw c.enum-told3.given.1 (only-up Withdraw c.args.upward c.args.stock refl refl)
+unfolding goes_up goes_down
+returns-in-Withdraw c = rw c.in-Withdraw.is (only-up Withdraw c.args.upward c.args.stock refl refl)
 
 pub returns-in-Gone : goal.returns-in-Gone
-returns-in-Gone c = rw c.enum-told4.given.1 (only-down Gone c.args.upward c.args.stock refl refl)
+unfolding goes_up goes_down
+returns-in-Gone c = rw c.in-Gone.is (only-down Gone c.args.upward c.args.stock refl refl)
