@@ -1,7 +1,7 @@
 /* The calls of a station: the check of a quorum table, ready-made tables, the outages that a table survives, the arbiter of the station's own
  * record, and the journal.
- * They stand in target/staticlib/libpafluzeno.a, which `rt staticlib pafluzeno` proves and writes (x86-64). It needs two functions of C, memcpy
- * and memset, and nothing else; it takes no memory but what it is lent and the stack, and remembers nothing from one call to the next.
+ * They stand in crates/pafluzeno/out/libpafluzeno.a, which `rt lib` in crates/pafluzeno proves and writes (x86-64). It needs two functions of C,
+ * memcpy and memset, and nothing else; it takes no memory but what it is lent and the stack, and remembers nothing from one call to the next.
  *
  * A table, a key and a text are lent to be read; scratch, a buffer and an arbiter's record are lent to be written; no call keeps any of them.
  * Every call ends and answers for all numbers and all contents of what it is lent, good or bad. What the caller owes is C's own: a pointer
@@ -25,9 +25,9 @@ extern "C" {
 #define PAFLUZENO_NO_MEMBER 16 /* what stands for a member where there is none */
 #define PAFLUZENO_PAGE_ROOM 196617 /* the bytes of a buffer that is long enough for every page of the journal */
 
-/* So many bytes of stack are enough for every call. Measured (stack.c), not proved: pafluzeno_page takes 64,896 bytes, every other call 1,040 or
- * less. The rest is for memcpy and memset, for the loader, which may run on the caller's stack when they are first used, and for a compiler that
- * lays the calls out otherwise. The program `journal`, which has its buffers on the stack, takes 332 KiB. */
+/* So many bytes of stack are enough for every call. Measured (stack.c), not proved; with the older toolchain pafluzeno_page takes 64,896 bytes, every
+ * other call 1,040 or less. The rest is for memcpy and memset, for the loader, which may run on the caller's stack when they are first used, and for
+ * a compiler that lays the calls out otherwise. The program `journal`, which has its buffers on the stack, then takes 332 KiB. */
 #define PAFLUZENO_STACK_BYTES 81920
 
 /* The refusals, by name and number. The calls below give 1 to 8, 10 and 14 to 19; the others, 9, 11 to 13 and 20, are the machine's, which a

@@ -38,11 +38,16 @@ pub struct Program {
     pub best: Best,
 }
 
+/// Where a checkout has a program that is built.
+fn built(checkout: &Path, name: &str) -> PathBuf {
+    checkout.join("crates").join(name).join("out").join(name)
+}
+
 impl Program {
     /// The verified program, as it stands below the folder in which this benchmark is run.
     pub fn verified(name: &str, folder: &Folder) -> Program {
         Program {
-            path: Path::new("target/bin").join(name),
+            path: built(Path::new(""), name),
             argument: None,
             output: folder.0.join("verified"),
             best: Best::new(),
@@ -53,7 +58,7 @@ impl Program {
     pub fn earlier(name: &str, folder: &Folder) -> Option<Program> {
         let checkout = std::env::var_os("PAFLUZENO_EARLIER")?;
         Some(Program {
-            path: Path::new(&checkout).join("target/bin").join(name),
+            path: built(Path::new(&checkout), name),
             argument: None,
             output: folder.0.join("earlier"),
             best: Best::new(),

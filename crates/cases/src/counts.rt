@@ -1,26 +1,26 @@
 // The outages that a table survives, as a line.
 use crate::report;
+use std::io;
 
 // The refusal and the counts, from the set without stations up.
-fn print_answer(counted: outages::Counted) {
-    report::number(b" outages=", counted.refusal as usize);
-    report::text(b" counts");
+fn print_answer(rt: &impl Print, counted: outages::Counted) -> io::Result<()> {
+    report::number(rt, b" outages=", counted.refusal as usize)?;
+    report::text(rt, b" counts")?;
     let size = counted.size;
-    let mut u: usize = 0;
-    while u < outages::SIZES {
+    for u in 0..outages::SIZES {
         if u < size {
             let count = counted.counts[u] as usize;
-            report::number(b" ", count);
+            report::number(rt, b" ", count)?;
         }
-        u += 1;
     }
+    Ok(())
 }
 
 // A table's line, below what was said of it.
-pub(crate) fn print_line(n: usize, k: usize, quorums: &[u16]) {
+pub(crate) fn print_line(rt: &impl Print, n: usize, k: usize, quorums: &[u16]) -> io::Result<()> {
     let mut scratch = [0u8; quorum::SCRATCH_BYTES];
     let counted = outages::count(n, k, quorums, &mut scratch);
-    report::number(b"n=", n);
-    report::number(b" k=", k);
-    print_answer(counted);
+    report::number(rt, b"n=", n)?;
+    report::number(rt, b" k=", k)?;
+    print_answer(rt, counted)
 }

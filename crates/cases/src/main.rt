@@ -8,15 +8,17 @@ mod makers;
 mod marked;
 mod order;
 mod ready;
-mod refusals;
+mod refused;
 mod report;
 mod table;
 
-fn main() {
-    marked::tables();
-    refusals::tables();
-    even::tables();
-    order::tables();
-    makers::tables();
-    ready::tables();
+use std::io;
+
+fn main(rt: HostRuntime) -> io::Result<()> {
+    marked::tables(&rt)?;
+    refused::tables(&rt)?;
+    even::tables(&rt)?;
+    order::tables(&rt)?;
+    makers::tables(&rt)?;
+    ready::tables(&rt)
 }

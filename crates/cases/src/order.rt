@@ -1,26 +1,33 @@
 // Tables that are turned away by two rules: the check answers with the earlier one. P9 is 6 before 7.
 use crate::table;
+use std::io;
 
-fn limits() {
-    table::check(b"check 1 before 2", quorum::MOST_STATIONS + 1, 0, &[1]);
+fn limits(rt: &impl Print) -> io::Result<()> {
+    table::check(rt, b"check 1 before 2", quorum::MOST_STATIONS + 1, 0, &[1])?;
     let none = [0u16; 1];
-    table::check(b"check 2 before 3", 1, quorum::MOST_UNITS + 1, &none[..0]);
+    table::check(
+        rt,
+        b"check 2 before 3",
+        1,
+        quorum::MOST_UNITS + 1,
+        &none[..0],
+    )
 }
 
 // One quorum too many, and the first names a station that is not there.
-fn too_many() {
+fn too_many(rt: &impl Print) -> io::Result<()> {
     let mut quorums = [7u16; quorum::MOST_QUORUMS + 1];
     quorums[0] = 8;
-    table::check(b"check 3 before 4", 3, 1, &quorums);
+    table::check(rt, b"check 3 before 4", 3, 1, &quorums)
 }
 
-fn short_scratch() {
-    table::check_short(b"check 4 before 5", 3, 1, &[8]);
-    table::check_short(b"check 5 before 6", 2, 5, &[1, 2]);
+fn short_scratch(rt: &impl Print) -> io::Result<()> {
+    table::check_short(rt, b"check 4 before 5", 3, 1, &[8])?;
+    table::check_short(rt, b"check 5 before 6", 2, 5, &[1, 2])
 }
 
-pub(crate) fn tables() {
-    limits();
-    too_many();
-    short_scratch();
+pub(crate) fn tables(rt: &impl Print) -> io::Result<()> {
+    limits(rt)?;
+    too_many(rt)?;
+    short_scratch(rt)
 }

@@ -1,12 +1,12 @@
 // Lines of text on standard output.
-use libc::STDOUT_FILENO;
+use std::io;
 
-pub(crate) fn text(bytes: &[u8]) {
-    io::write_all(STDOUT_FILENO, bytes);
+pub(crate) fn text(rt: &impl Print, bytes: &[u8]) -> io::Result<()> {
+    rt.write_all(bytes)
 }
 
 // A key as written, and a number.
-pub(crate) fn number(key: &[u8], value: usize) {
-    text(key);
-    io::print_decimal(STDOUT_FILENO, value as u64);
+pub(crate) fn number(rt: &impl Print, key: &[u8], value: usize) -> io::Result<()> {
+    text(rt, key)?;
+    print!(rt; "{value}")
 }

@@ -3,5 +3,3 @@ pub mod PerformingCalls
 pub mod GoingOn
 pub mod PerformingList
 pub mod AnswerWords
-pub mod ReturningCall
-pub mod StartingRecord

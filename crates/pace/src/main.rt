@@ -2,8 +2,8 @@
 // every arbiter to collect and again to give back.
 #![tactic(auto)]
 
-use libc::STDOUT_FILENO;
 use records::Record;
+use std::io;
 
 const ROUNDS: usize = 5000;
 
@@ -18,9 +18,9 @@ struct Tally {
     record: Record,
 }
 
-fn number(key: &[u8], value: usize) {
-    io::write_all(STDOUT_FILENO, key);
-    io::print_decimal(STDOUT_FILENO, value as u64);
+fn number(rt: &impl Print, key: &[u8], value: usize) -> io::Result<()> {
+    rt.write_all(key)?;
+    print!(rt; "{value}")
 }
 
 // One more call is counted, as far as the counts have room.
@@ -81,13 +81,13 @@ fn rounds(record: Record) -> Tally {
     t
 }
 
-fn main() {
+fn main(rt: HostRuntime) -> io::Result<()> {
     let mut scratch = [0u8; quorum::SCRATCH_BYTES];
     let opened = machine::open(12, 200, &[4095u16], &mut scratch);
     let t = rounds(opened.record);
-    number(b"calls=", ROUNDS * CALLS_A_ROUND);
-    number(b" entered=", t.entered);
-    number(b" left=", t.left);
-    number(b" refused=", t.refused);
-    io::write_all(STDOUT_FILENO, b"\n");
+    number(&rt, b"calls=", ROUNDS * CALLS_A_ROUND)?;
+    number(&rt, b" entered=", t.entered)?;
+    number(&rt, b" left=", t.left)?;
+    number(&rt, b" refused=", t.refused)?;
+    rt.write_all(b"\n")
 }

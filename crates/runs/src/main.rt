@@ -12,19 +12,20 @@ mod service;
 mod unused;
 
 use scripts::by_hand;
+use std::io;
 
 // Many start from P2, or from three stations that share three units.
-fn main() {
-    let p2 = opening::marked();
-    let empty = opening::one_to_four();
-    opening::six_and_seven();
-    marked::run(p2);
-    performed::run(p2);
-    numbers::run(p2);
+fn main(rt: HostRuntime) -> io::Result<()> {
+    let p2 = opening::marked(&rt)?;
+    let empty = opening::one_to_four(&rt)?;
+    opening::six_and_seven(&rt)?;
+    marked::run(&rt, p2)?;
+    performed::run(&rt, p2)?;
+    numbers::run(&rt, p2)?;
     let shared = by_hand::one_asked(3, 3);
-    full::run(p2, shared);
-    out_of_range::run(p2, empty);
-    unused::run();
-    service::run(shared);
-    grants::run(p2);
+    full::run(&rt, p2, shared)?;
+    out_of_range::run(&rt, p2, empty)?;
+    unused::run(&rt)?;
+    service::run(&rt, shared)?;
+    grants::run(&rt, p2)
 }

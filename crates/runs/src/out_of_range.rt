@@ -2,78 +2,83 @@
 use plain::Message;
 use records::Record;
 use scripts::{by_hand, changed, script};
+use std::io;
 
 // What opening hands back on a refusal.
-fn empty_record(empty: Record) {
+fn empty_record(rt: &impl Print, empty: Record) -> io::Result<()> {
     script::play(
+        rt,
         empty,
         b"refusal 19: request(0,0,1) up(0,0) down(0,0) release(0)",
-    );
+    )?;
+    Ok(())
 }
 
 // No stock, and a station or arbiter that there is not.
-fn before_8(p2: Record) {
+fn before_8(rt: &impl Print, p2: Record) -> io::Result<()> {
     let mut r = p2;
     r.stock = by_hand::units(0);
     script::play(
+        rt,
         r,
         b"19 before 8: request(3,0,1) up(3,0) down(0,3) release(3)",
-    );
+    )?;
+    Ok(())
 }
 
-fn lanes(p2: Record) {
-    changed::up_lane(p2, 4, Message::Release);
-    changed::up_lane(p2, 5, Message::Release);
-    changed::up_lane(p2, 1, Message::Grant);
-    changed::up_lane(p2, 1, by_hand::request(0));
-    changed::up_lane(p2, 1, by_hand::request(2));
-    changed::down_lane(p2, 2, Message::Grant);
-    changed::down_lane(p2, 3, Message::Grant);
-    changed::down_lane(p2, 1, by_hand::request(1));
-    changed::down_lane(p2, 1, Message::Release);
+fn lanes(rt: &impl Print, p2: Record) -> io::Result<()> {
+    changed::up_lane(rt, p2, 4, Message::Release)?;
+    changed::up_lane(rt, p2, 5, Message::Release)?;
+    changed::up_lane(rt, p2, 1, Message::Grant)?;
+    changed::up_lane(rt, p2, 1, by_hand::request(0))?;
+    changed::up_lane(rt, p2, 1, by_hand::request(2))?;
+    changed::down_lane(rt, p2, 2, Message::Grant)?;
+    changed::down_lane(rt, p2, 3, Message::Grant)?;
+    changed::down_lane(rt, p2, 1, by_hand::request(1))?;
+    changed::down_lane(rt, p2, 1, Message::Release)
 }
 
-fn arbiters(p2: Record) {
-    changed::arbiter(p2, 1, 12, 2, 1);
-    changed::arbiter(p2, 2, 12, 2, 1);
-    changed::arbiter(p2, 1, 13, 2, 1);
-    changed::arbiter(p2, 1, 12, 3, 1);
-    changed::arbiter(p2, 1, 12, 2, 0);
-    changed::arbiter(p2, 1, 12, 2, 2);
+fn arbiters(rt: &impl Print, p2: Record) -> io::Result<()> {
+    changed::arbiter(rt, p2, 1, 12, 2, 1)?;
+    changed::arbiter(rt, p2, 2, 12, 2, 1)?;
+    changed::arbiter(rt, p2, 1, 13, 2, 1)?;
+    changed::arbiter(rt, p2, 1, 12, 3, 1)?;
+    changed::arbiter(rt, p2, 1, 12, 2, 0)?;
+    changed::arbiter(rt, p2, 1, 12, 2, 2)
 }
 
-fn phases(p2: Record) {
-    changed::collecting(p2, 2, 1, 2);
-    changed::collecting(p2, 3, 1, 2);
-    changed::collecting(p2, 2, 0, 2);
-    changed::collecting(p2, 2, 2, 2);
-    changed::collecting(p2, 2, 1, 3);
-    changed::holding(p2, 2, 1);
-    changed::holding(p2, 3, 1);
-    changed::holding(p2, 2, 0);
-    changed::holding(p2, 2, 2);
+fn phases(rt: &impl Print, p2: Record) -> io::Result<()> {
+    changed::collecting(rt, p2, 2, 1, 2)?;
+    changed::collecting(rt, p2, 3, 1, 2)?;
+    changed::collecting(rt, p2, 2, 0, 2)?;
+    changed::collecting(rt, p2, 2, 2, 2)?;
+    changed::collecting(rt, p2, 2, 1, 3)?;
+    changed::holding(rt, p2, 2, 1)?;
+    changed::holding(rt, p2, 3, 1)?;
+    changed::holding(rt, p2, 2, 0)?;
+    changed::holding(rt, p2, 2, 2)
 }
 
 // The largest of all four numbers together, and one that is out of range at a time.
-fn limits() {
+fn limits(rt: &impl Print) -> io::Result<()> {
     let twelve = by_hand::one_asked(12, 1);
-    changed::sizes(twelve, 12, 200, 64, 4095);
-    changed::sizes(twelve, 13, 200, 64, 4095);
-    changed::sizes(twelve, 0, 200, 64, 4095);
-    changed::sizes(twelve, 12, 201, 64, 4095);
-    changed::sizes(twelve, 12, 0, 64, 4095);
-    changed::sizes(twelve, 12, 200, 65, 4095);
-    changed::sizes(twelve, 12, 200, 0, 4095);
-    changed::sizes(twelve, 12, 200, 64, 4096);
-    changed::sizes(twelve, 12, 200, 64, 0);
-    changed::sizes(twelve, 11, 200, 64, 4095);
+    changed::sizes(rt, twelve, 12, 200, 64, 4095)?;
+    changed::sizes(rt, twelve, 13, 200, 64, 4095)?;
+    changed::sizes(rt, twelve, 0, 200, 64, 4095)?;
+    changed::sizes(rt, twelve, 12, 201, 64, 4095)?;
+    changed::sizes(rt, twelve, 12, 0, 64, 4095)?;
+    changed::sizes(rt, twelve, 12, 200, 65, 4095)?;
+    changed::sizes(rt, twelve, 12, 200, 0, 4095)?;
+    changed::sizes(rt, twelve, 12, 200, 64, 4096)?;
+    changed::sizes(rt, twelve, 12, 200, 64, 0)?;
+    changed::sizes(rt, twelve, 11, 200, 64, 4095)
 }
 
-pub(crate) fn run(p2: Record, empty: Record) {
-    empty_record(empty);
-    before_8(p2);
-    lanes(p2);
-    arbiters(p2);
-    phases(p2);
-    limits();
+pub(crate) fn run(rt: &impl Print, p2: Record, empty: Record) -> io::Result<()> {
+    empty_record(rt, empty)?;
+    before_8(rt, p2)?;
+    lanes(rt, p2)?;
+    arbiters(rt, p2)?;
+    phases(rt, p2)?;
+    limits(rt)
 }

@@ -2,6 +2,7 @@
 use machine::{DO_DOWN, DO_UP};
 use records::Record;
 use scripts::listed::{list, short};
+use std::io;
 
 // The numbers of P11's five calls; those that are 0 stand there already.
 fn p11() -> [u16; 32] {
@@ -31,11 +32,11 @@ fn p12() -> [u16; 32] {
     calls
 }
 
-pub(crate) fn run(p2: Record) {
+pub(crate) fn run(rt: &impl Print, p2: Record) -> io::Result<()> {
     let calls = p12();
-    list(b"P11 and P12, performed", p2, &calls);
-    short(b"refusal 16, performed", p2, &calls);
+    list(rt, b"P11 and P12, performed", p2, &calls)?;
+    short(rt, b"refusal 16, performed", p2, &calls)?;
     let mut unknown = calls;
     unknown[28] = 5;
-    short(b"refusal 15, performed", p2, &unknown);
+    short(rt, b"refusal 15, performed", p2, &unknown)
 }

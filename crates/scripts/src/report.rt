@@ -1,18 +1,18 @@
 // Lines of text on standard output.
-use libc::STDOUT_FILENO;
+use std::io;
 
-pub fn text(bytes: &[u8]) {
-    io::write_all(STDOUT_FILENO, bytes);
+pub fn text(rt: &impl Print, bytes: &[u8]) -> io::Result<()> {
+    rt.write_all(bytes)
 }
 
 // A key as written, and a number.
-pub fn number(key: &[u8], value: usize) {
-    text(key);
-    io::print_decimal(STDOUT_FILENO, value as u64);
+pub fn number(rt: &impl Print, key: &[u8], value: usize) -> io::Result<()> {
+    text(rt, key)?;
+    print!(rt; "{value}")
 }
 
 // A key as written, and two numbers.
-pub fn pair(key: &[u8], first: usize, second: usize) {
-    number(key, first);
-    number(b",", second);
+pub fn pair(rt: &impl Print, key: &[u8], first: usize, second: usize) -> io::Result<()> {
+    number(rt, key, first)?;
+    number(rt, b",", second)
 }

@@ -4,6 +4,7 @@ ghost use Rattle.std.specs.Prelude.{◌≤◌, length};
 use crate::report;
 use calls::Answer;
 use records::Record;
+use std::io;
 
 // Where the byte first stands in the text, or the text's end.
 fn end_of(text: &[u8], byte: u8) -> usize
@@ -55,44 +56,44 @@ fn answer(r: Record, call: &[u8]) -> Answer {
 }
 
 // The line's end, and the record that the machine handed back.
-pub fn answered(a: Answer) -> Record {
-    report::number(b" refused=", a.refusal as usize);
-    report::number(b" entered=", units::number_of(a.entered) as usize);
-    report::number(b" left=", units::number_of(a.left) as usize);
-    report::number(b" above=", a.above as usize);
-    report::text(b"\n");
-    a.record
+pub fn answered(rt: &impl Print, a: Answer) -> io::Result<Record> {
+    report::number(rt, b" refused=", a.refusal as usize)?;
+    report::number(rt, b" entered=", units::number_of(a.entered) as usize)?;
+    report::number(rt, b" left=", units::number_of(a.left) as usize)?;
+    report::number(rt, b" above=", a.above as usize)?;
+    report::text(rt, b"\n")?;
+    Ok(a.record)
 }
 
 // One call: its line, and the record after it.
-pub fn call(name: &[u8], r: Record, call: &[u8]) -> Record {
-    report::text(name);
-    report::text(b" ");
-    report::text(call);
-    answered(answer(r, call))
+pub fn call(rt: &impl Print, name: &[u8], r: Record, call: &[u8]) -> io::Result<Record> {
+    report::text(rt, name)?;
+    report::text(rt, b" ")?;
+    report::text(rt, call)?;
+    answered(rt, answer(r, call))
 }
 
 // The calls of a text, one after the other, each on the record that the one before handed back.
-fn calls(name: &[u8], start: Record, text: &[u8]) -> Record {
+fn calls(rt: &impl Print, name: &[u8], start: Record, text: &[u8]) -> io::Result<Record> {
     let mut r = start;
     let mut at: usize = 0;
     while at < text.len() {
         let end = at + end_of(&text[at..], b' ');
-        r = call(name, r, &text[at..end]);
+        r = call(rt, name, r, &text[at..end])?;
         if text.len() - end <= 1 {
-            return r;
+            return Ok(r);
         }
         at = end + 1;
     }
-    r
+    Ok(r)
 }
 
 // The whole example, from the record given.
-pub fn play(start: Record, example: &[u8]) -> Record {
+pub fn play(rt: &impl Print, start: Record, example: &[u8]) -> io::Result<Record> {
     let size = end_of(example, b':');
     if example.len() - size <= 2 {
-        return start;
+        return Ok(start);
     }
     let from = size + 2;
-    calls(&example[0..size], start, &example[from..])
+    calls(rt, &example[0..size], start, &example[from..])
 }

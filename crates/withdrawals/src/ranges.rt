@@ -2,27 +2,31 @@
 use plain::{Message, Phase};
 use records::Record;
 use scripts::{by_hand, changed, script};
+use std::io;
 
-fn lanes(p2: Record) {
-    changed::up_lane(p2, 4, Message::Withdraw);
-    changed::up_lane(p2, 1, Message::Gone);
-    changed::down_lane(p2, 1, Message::Gone);
-    changed::down_lane(p2, 1, Message::Withdraw);
+fn lanes(rt: &impl Print, p2: Record) -> io::Result<()> {
+    changed::up_lane(rt, p2, 4, Message::Withdraw)?;
+    changed::up_lane(rt, p2, 1, Message::Gone)?;
+    changed::down_lane(rt, p2, 1, Message::Gone)?;
+    changed::down_lane(rt, p2, 1, Message::Withdraw)
 }
 
 // A withdrawing station, and the empty record.
-fn stations(p2: Record) {
+fn stations(rt: &impl Print, p2: Record) -> io::Result<()> {
     script::play(
+        rt,
         by_hand::with_phase(p2, 2, Phase::Withdrawing),
         b"withdrawing: withdraw(2) request(0,0,1)",
-    );
+    )?;
     script::play(
+        rt,
         by_hand::fresh(3, 2, &[3, 5, 6]),
         b"refusal 19: withdraw(0) withdraw(9)",
-    );
+    )?;
+    Ok(())
 }
 
-pub(crate) fn run(p2: Record) {
-    lanes(p2);
-    stations(p2);
+pub(crate) fn run(rt: &impl Print, p2: Record) -> io::Result<()> {
+    lanes(rt, p2)?;
+    stations(rt, p2)
 }

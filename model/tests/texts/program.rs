@@ -13,7 +13,8 @@ const JOURNAL: &str = "journal";
 fn path(program: &str) -> PathBuf {
     let path = match std::env::var_os(format!("PAFLUZENO_{}", program.to_uppercase())) {
         Some(path) => PathBuf::from(path),
-        None => PathBuf::from(env!("CARGO_MANIFEST_DIR")).join(format!("../target/bin/{program}")),
+        None => PathBuf::from(env!("CARGO_MANIFEST_DIR"))
+            .join(format!("../crates/{program}/out/{program}")),
     };
     assert!(path.is_file(), "the program {program} is not at {path:?}");
     path

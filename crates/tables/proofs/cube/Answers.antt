@@ -11,7 +11,8 @@ use Rattle.tables.proofs.cube.Goals as goal
 
 pub returns-then-refusal-ne-NO_REFUSAL : goal.returns-then-refusal-ne-NO_REFUSAL
 returns-then-refusal-ne-NO_REFUSAL c =
-    on_refusal (cube_table c.args.a c.args.k) c.args.out.now c.refusal-refusal.result _ c.refusal-refusal.ensures c.if-refusal-ne-NO_REFUSAL.true
+    let (answered, written) = on_refusal (cube_table c.args.a c.args.k) c.args.out.now c.refusal-refusal.result _ c.refusal-refusal.ensures c.if-refusal-ne-NO_REFUSAL.true in
+    record { answered = answered; written = written }
 
 pub stations_of-n-requires : goal.stations_of-n-requires
 stations_of-n-requires c =
@@ -32,8 +33,9 @@ returns c =
     let out = c.args.out.now in
     let kept = cube_kept a k (length out) (sym c.refusal-refusal.ensures ∙ c.if-refusal-ne-NO_REFUSAL.false) in
     let n = c.stations_of-n.ensures ∙ sym (bounded_within a k (cube_stations a k) refl kept.stations) in
-    on_table (cube_table a k) out c.refusal-refusal.result _ c.refusal-refusal.ensures c.if-refusal-ne-NO_REFUSAL.false
+    let (answered, written) = on_table (cube_table a k) out c.refusal-refusal.result _ c.refusal-refusal.ensures c.if-refusal-ne-NO_REFUSAL.false
     c.stations_of-n.result c.write_quorums.new.out
     (n ∙ sym (cube_length a k))
     (omega (arith, cube_length a k, kept.enough))
-    c.write_quorums.ensures
+    c.write_quorums.ensures in
+    record { answered = answered; written = written }

@@ -14,7 +14,8 @@ use Rattle.tables.proofs.uniform.Goals as goal
 
 pub returns-then-refusal-ne-NO_REFUSAL : goal.returns-then-refusal-ne-NO_REFUSAL
 returns-then-refusal-ne-NO_REFUSAL c =
-    on_refusal (uniform_table c.args.n c.args.k) c.args.out.now c.refusal-refusal.result _ c.refusal-refusal.ensures c.if-refusal-ne-NO_REFUSAL.true
+    let (answered, written) = on_refusal (uniform_table c.args.n c.args.k) c.args.out.now c.refusal-refusal.result _ c.refusal-refusal.ensures c.if-refusal-ne-NO_REFUSAL.true in
+    record { answered = answered; written = written }
 
 pub size_of-size-requires : goal.size_of-size-requires
 size_of-size-requires c =
@@ -26,7 +27,7 @@ write_sets-quorums-requires c =
     let n = c.args.n in
     let k = c.args.k in
     let kept = uniform_kept n k (length c.args.out.now) (sym c.refusal-refusal.ensures ∙ c.if-refusal-ne-NO_REFUSAL.false) in
-    (kept.stations.1, omega (arith, pow_mono {i = n} {j = 16} (omega (arith, kept.stations.1))), omega (arith, kept.enough, uniform_length n k, ap (choose n) c.type_size.ensures))
+    (kept.stations.1, omega (arith, pow_mono {i = n} {j = 16} (omega (arith, kept.stations.1))), omega (arith, kept.enough, uniform_length n k, ap (choose n) c.size_of-size.ensures))
 
 pub returns : goal.returns
 unfolding uniform_table
@@ -36,9 +37,10 @@ returns c =
     let out = c.args.out.now in
     let kept = uniform_kept n k (length out) (sym c.refusal-refusal.ensures ∙ c.if-refusal-ne-NO_REFUSAL.false) in
     let done = c.write_sets-quorums in
-    let size = c.type_size.ensures in
-    on_table (uniform_table n k) out c.refusal-refusal.result _ c.refusal-refusal.ensures c.if-refusal-ne-NO_REFUSAL.false
+    let size = c.size_of-size.ensures in
+    let (answered, written) = on_table (uniform_table n k) out c.refusal-refusal.result _ c.refusal-refusal.ensures c.if-refusal-ne-NO_REFUSAL.false
     done.result done.new.out
     (omega (arith, done.ensures.placed, uniform_length n k, ap (choose n) size))
     kept.enough
-    (done.ensures.written ∙ ap (stored out 0 0 n) size ∙ stored_front out n (uniform_size n k))
+    (done.ensures.written ∙ ap (stored out 0 0 n) size ∙ stored_front out n (uniform_size n k)) in
+    record { answered = answered; written = written }

@@ -1,16 +1,17 @@
 -- `outages::counting::count_sets` meets its contract. The loop's invariant: the sets below `set` that contain a quorum are counted by their size.
 -- Assumes nothing.
 use mathlib.Core.List.{List}
-use mathlib.Core.Logic.{⊎_elim}
 use mathlib.Core.Path.{◌≡◌, sym, ap, ◌∙◌}
-use Prim.Native.Nat.{ℕ, ◌-◌, ◌^◌, ◌≤◌, ◌<◌}
+use Prim.Native.Nat.{ℕ, ◌^◌, ◌≤◌, ◌<◌}
 use native.Mathlib.Omega.{arith}
+use lib.ListN.{get_or}
 use lib.Pow.{pow_pos, pow_mono}
 use Rattle.stations.proofs.Members.{everyone-min}
 use Rattle.quorum.specs.Limits.{most_stations}
+use Rattle.outages.specs.Answer.{sizes}
 use Rattle.outages.proofs.SetsSeen.{counts_below, none_seen, all_seen, seen_fail, seen_pass, size_few, count_few}
 use Rattle.outages.proofs.counting.count_sets.Goals as goal
-use Rattle.outages.proofs.counting.count_sets.Goals.{After-count-members, After-works, At-loop-set}
+use Rattle.outages.proofs.counting.count_sets.Goals.{After-count-members, After-works, then-works, else-works}
 
 pub loop-set-init : goal.loop-set-init
 loop-set-init c =
@@ -25,7 +26,7 @@ module _ (c : After-works) where
   table = c.args.quorums.now
 
   few : stations ≤ most_stations
-  few = c.pre
+  few = c.requires
 
   below : c.loop-set.set < 2 ^ stations
   below = omega (arith, pow_pos stations)
@@ -34,38 +35,51 @@ module _ (c : After-works) where
   small = pow_mono few
 
 -- which contains a quorum, and has so many members
-module _ (c : After-count-members) where
-  abbrev set_at : At-loop-set
-  set_at = c c.before.before
+module _ (c : After-count-members) (few : c.args.n ≤ most_stations) (below : c.loop-set.set < 2 ^ c.args.n) where
+  in_array : c.count-members.result < sizes
+  in_array =
+      size_few c.args.n c.args.quorums.now c.loop-set.counts c.loop-set.set c.loop-set.invariant.2 few below c.count-members.result c.count-members.ensures
 
-  bounds-counts-members-then-works : c.count-members.result < 13
-  bounds-counts-members-then-works =
-      let w = c.before.before in
-      size_few (stations w) (table w) set_at.loop-set.counts set_at.loop-set.set set_at.loop-set.invariant.2 (few w) (below w) c.count-members.result c.count-members.ensures
+  so_far : get_or c.loop-set.counts c.count-members.result 0 ≤ c.loop-set.set
+  so_far =
+      count_few c.args.n c.args.quorums.now c.loop-set.counts c.loop-set.set c.loop-set.invariant.2 few below c.count-members.result c.count-members.ensures
 
 pub offset_bounds-counts-members : goal.offset_bounds-counts-members
-offset_bounds-counts-members c = record { fits = omega (arith, bounds-counts-members-then-works c) }
+offset_bounds-counts-members c =
+    let at = goal.at.offset_bounds-counts-members c in
+    record { fits = omega (arith, in_array at.After-count-members (few at.After-works) (below at.After-works)) }
+
+pub bounds-counts-members : goal.bounds-counts-members
+bounds-counts-members c =
+    let at = goal.at.bounds-counts-members c in
+    in_array at.After-count-members (few at.After-works) (below at.After-works)
 
 pub overflow_add-counts : goal.overflow_add-counts
 overflow_add-counts c =
-    let at = (set_at (goal.at.overflow_add-counts c).After-count-members).loop-set in
-    record { fits = omega (arith, small (goal.at.overflow_add-counts c).After-works, below (goal.at.overflow_add-counts c).After-works, count_few (stations (goal.at.overflow_add-counts c).After-works) (table (goal.at.overflow_add-counts c).After-works) at.counts at.set at.inv.2 (few (goal.at.overflow_add-counts c).After-works) (below (goal.at.overflow_add-counts c).After-works) c.count-members.result c.count-members.ensures) }
+    let at = goal.at.overflow_add-counts c in
+    record { fits = omega (arith, small at.After-works, below at.After-works, so_far at.After-count-members (few at.After-works) (below at.After-works)) }
+
+pub bounds-counts-members-then-works : goal.bounds-counts-members-then-works
+bounds-counts-members-then-works c =
+    let at = goal.at.bounds-counts-members-then-works c in
+    in_array at.After-count-members (few at.After-works) (below at.After-works)
 
 pub overflow_add-set : goal.overflow_add-set
-overflow_add-set c = record { fits = omega (arith, small (goal.at.overflow_add-set c).After-works, below (goal.at.overflow_add-set c).After-works) }
+overflow_add-set c = let w = (goal.at.overflow_add-set c).After-works in record { fits = omega (arith, small w, below w) }
 
 pub loop-set-smaller : goal.loop-set-smaller
 loop-set-smaller c = omega (arith, below (goal.at.loop-set-smaller c).After-works)
 
 pub loop-set-preserved : goal.loop-set-preserved
 loop-set-preserved c =
+    let now = (goal.at.loop-set-preserved c).After-works in
     let at = c.loop-set in (
-      at.inv.0,
-      omega (arith, below (goal.at.loop-set-preserved c).After-works),
-      ⊎_elim
-          (λ v. v.2 ∙ seen_pass (stations (goal.at.loop-set-preserved c).After-works) (table (goal.at.loop-set-preserved c).After-works) at.counts at.set at.inv.2 (few (goal.at.loop-set-preserved c).After-works) (below (goal.at.loop-set-preserved c).After-works) v.1.result v.1.ensures (sym c.works.ensures ∙ v.0.taken))
-          (λ v. v.1 ∙ seen_fail (stations (goal.at.loop-set-preserved c).After-works) (table (goal.at.loop-set-preserved c).After-works) at.counts at.set at.inv.2 (sym c.works.ensures ∙ v.0.left))
-          c.if-works.branch,
+      at.invariant.0,
+      omega (arith, below now),
+      elim c.if-works.branch [
+        | then-works w ↦ w.counts-is ∙ seen_pass (stations now) (table now) at.counts at.set at.invariant.2 (few now) (below now) w.count-members.result w.count-members.ensures (sym c.works.ensures ∙ w.if-works.true)
+        | else-works w ↦ w.counts-is ∙ seen_fail (stations now) (table now) at.counts at.set at.invariant.2 (sym c.works.ensures ∙ w.if-works.false)
+      ],
     )
 
 pub returns : goal.returns

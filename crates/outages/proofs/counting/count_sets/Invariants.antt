@@ -1,7 +1,7 @@
 -- `outages::counting::count_sets` meets its contract. The loop's invariant: the sets below `set` that contain a quorum are counted by their size.
 -- Assumes nothing.
-use mathlib.Core.Path.{◌≡◌, ◌∙◌}
-use Prim.Native.Nat.{◌-◌, ◌^◌, ◌≤◌, ◌<◌}
+use mathlib.Core.Path.{◌≡◌}
+use Prim.Native.Nat.{◌-◌, ◌^◌, ◌≤◌}
 use Rattle.stations.specs.Sets.{everyone}
 use Rattle.outages.proofs.SetsSeen.{counts_below}
 use Rattle.outages.proofs.counting.count_sets.Given as goal

@@ -1,6 +1,6 @@
 -- `outages::working::works` meets its contract. The loop's invariant: the set contains a quorum from p on exactly when it contains one at all.
 -- Assumes nothing.
-use mathlib.Core.Path.{◌≡◌, ◌∙◌}
+use mathlib.Core.Path.{◌≡◌}
 use Prim.Native.Nat.{◌≤◌, ◌-◌}
 use lib.ListN.{length, drop}
 use Rattle.lists.specs.Search.{any}

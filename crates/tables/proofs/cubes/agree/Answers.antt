@@ -1,7 +1,7 @@
 -- `tables::cubes::agree` meets its contract. The loop's invariant: what is left of two stations that agree in none of the first i coordinates.
 -- Assumes nothing.
 use mathlib.Core.Path.{◌≡◌, sym, ap, ◌∙◌}
-use Prim.Native.Nat.{ℕ, ◌-◌, ◌≤◌}
+use Prim.Native.Nat.{ℕ}
 use native.Mathlib.Omega.{arith}
 use Rattle.tables.proofs.Coordinates.{apart_start, apart_agree, apart_next}
 use Rattle.tables.specs.Cube.{agree}

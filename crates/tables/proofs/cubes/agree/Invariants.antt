@@ -1,6 +1,5 @@
 -- `tables::cubes::agree` meets its contract. The loop's invariant: what is left of two stations that agree in none of the first i coordinates.
 -- Assumes nothing.
-use mathlib.Core.Path.{◌≡◌, ◌∙◌}
 use Prim.Native.Nat.{◌-◌, ◌≤◌}
 use Rattle.tables.proofs.Coordinates.{Apart}
 use Rattle.tables.proofs.cubes.agree.Given as goal

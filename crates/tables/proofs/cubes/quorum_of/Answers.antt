@@ -1,7 +1,7 @@
 -- `tables::cubes::quorum_of` meets its contract. The loop's invariant: the stations below q that agree with p.
 -- Assumes nothing.
 use mathlib.Core.Path.{ap₂, ◌≡◌, refl, sym, ap, ◌∙◌}
-use Prim.Native.Nat.{suc, ◌+◌, ◌-◌, ◌≤◌}
+use Prim.Native.Nat.{suc, ◌+◌}
 use native.Mathlib.Omega.{arith}
 use lib.Pow.{pow_mono}
 use Rattle.stations.proofs.Built.{set_below, set_pass, set_fail, only_below}
@@ -26,7 +26,7 @@ loop-q-preserved c =
     let f = agree c.args.a (c.args.k + 1) c.args.p in (
       omega arith,
       omega arith,
-      elim c.if-agree.branch [ then-agree w ↦ w.2 ∙ ap₂ ◌+◌ at.invariant.2 (w.1.ensures ∙ only_below at.q (omega (arith, at.invariant.1))) ∙ set_pass f at.q (sym c.agree.ensures ∙ w.if-agree.true) | else-agree w ↦ w.1 ∙ at.invariant.2 ∙ set_fail f at.q (sym c.agree.ensures ∙ w.if-agree.false) ],
+      elim c.if-agree.branch [ then-agree w ↦ w.quorum-is ∙ ap₂ ◌+◌ at.invariant.2 (w.only-quorum.ensures ∙ only_below at.q (omega (arith, at.invariant.1))) ∙ set_pass f at.q (sym c.agree.ensures ∙ w.if-agree.true) | else-agree w ↦ w.quorum-is ∙ at.invariant.2 ∙ set_fail f at.q (sym c.agree.ensures ∙ w.if-agree.false) ],
     )
 
 pub returns : goal.returns

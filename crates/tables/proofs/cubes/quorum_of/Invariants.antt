@@ -1,6 +1,6 @@
 -- `tables::cubes::quorum_of` meets its contract. The loop's invariant: the stations below q that agree with p.
 -- Assumes nothing.
-use mathlib.Core.Path.{◌≡◌, ◌∙◌}
+use mathlib.Core.Path.{◌≡◌}
 use Prim.Native.Nat.{◌+◌, ◌-◌, ◌≤◌}
 use Rattle.quorum.specs.Limits.{most_stations}
 use Rattle.tables.specs.Cube.{agree}

@@ -16,7 +16,7 @@ unfolding cube_refusal
 returns-then-not-up_to c = rw (sym c.up_to.ensures ∙ c.if-not-up_to.true)
 
 pub stations_of-n-requires : goal.stations_of-n-requires
-stations_of-n-requires c = (up_to_lem most_units c.args.k (ap not (sym c.up_to.ensures) ∙ c.if-not-up_to.false)).1
+stations_of-n-requires c = (up_to_lem most_units c.args.k (ap not (sym c.up_to.ensures ∙ c.if-not-up_to.false))).1
 
 pub returns-then-n-eq0 : goal.returns-then-n-eq0
 unfolding cube_refusal

@@ -1,7 +1,7 @@
 -- `tables::cubes::stations_of` meets its contract. The loop's invariant: n is a^i, and at most 12.
 -- Assumes nothing.
 use mathlib.Core.Path.{◌≡◌, sym, ap, ◌∙◌}
-use Prim.Native.Nat.{ℕ, ◌+◌, ◌-◌, ◌^◌, ◌≤◌}
+use Prim.Native.Nat.{ℕ, ◌+◌, ◌^◌}
 use native.Mathlib.Nat.{pow-zero}
 use native.Mathlib.Omega.{arith}
 use Rattle.tables.proofs.CubeStations.{bounded_within, bounded_beyond, small_power, next_power, factor_fits, power_large}

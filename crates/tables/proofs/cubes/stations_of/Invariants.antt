@@ -1,6 +1,6 @@
 -- `tables::cubes::stations_of` meets its contract. The loop's invariant: n is a^i, and at most 12.
 -- Assumes nothing.
-use mathlib.Core.Path.{◌≡◌, ◌∙◌}
+use mathlib.Core.Path.{◌≡◌}
 use Prim.Native.Nat.{◌+◌, ◌-◌, ◌^◌, ◌≤◌}
 use Rattle.quorum.specs.Limits.{most_stations}
 use Rattle.tables.proofs.cubes.stations_of.Given as goal

@@ -1,6 +1,6 @@
 -- `tables::cubes::write_quorums` meets its contract. The loop's invariant: the quorums of the stations below p are stored, from the front.
 -- Assumes nothing.
-use mathlib.Core.Path.{◌≡◌, ◌∙◌}
+use mathlib.Core.Path.{◌≡◌}
 use Prim.Native.Nat.{◌-◌, ◌≤◌}
 use lib.ListN.{length}
 use lib.Seq.{sets}

@@ -20,20 +20,19 @@ unfolding uniform_refusal
 returns-then-not-up_to-2 c = rw (sym c.up_to.ensures ∙ c.if-not-up_to.false, sym c.up_to-2.ensures ∙ c.if-not-up_to-2.true)
 
 pub size_of-requires : goal.size_of-requires
-size_of-requires c =
-    let start = c.before.before.before.before in (
-      (up_to_lem most_stations start.args.n (ap not (sym c.up_to.ensures) ∙ c.if-not-up_to.false)).1,
-      (up_to_lem most_units start.args.k (ap not (sym c.up_to-2.ensures) ∙ c.if-not-up_to-2.false)).1,
-    )
+size_of-requires c = (
+  (up_to_lem most_stations c.args.n (ap not (sym c.up_to.ensures ∙ c.if-not-up_to.false))).1,
+  (up_to_lem most_units c.args.k (ap not (sym c.up_to-2.ensures ∙ c.if-not-up_to-2.false))).1,
+)
 
 pub sets_of-sets-requires : goal.sets_of-sets-requires
 sets_of-sets-requires c =
-    let stations = up_to_lem most_stations c.args.n (ap not (sym c.up_to.ensures) ∙ c.if-not-up_to.false) in
-    (stations.1, rw c.type_size.ensures (size-le c.args.n c.args.k stations.0))
+    let stations = up_to_lem most_stations c.args.n (ap not (sym c.up_to.ensures ∙ c.if-not-up_to.false)) in
+    (stations.1, rw c.size_of.ensures (size-le c.args.n c.args.k stations.0))
 
 pub returns : goal.returns
 unfolding uniform_refusal no_room
 returns c =
-    let sets = c.sets_of-sets.ensures ∙ ap (choose c.args.n) c.type_size.ensures ∙ sym (uniform_length c.args.n c.args.k) in
+    let sets = c.sets_of-sets.ensures ∙ ap (choose c.args.n) c.size_of.ensures ∙ sym (uniform_length c.args.n c.args.k) in
     rw (sym c.up_to.ensures ∙ c.if-not-up_to.false, sym c.up_to-2.ensures ∙ c.if-not-up_to-2.false)
     (c.no_room.ensures ∙ ap (λ (q : ℕ). no_room q c.args.room) sets)

@@ -1,7 +1,7 @@
 -- `tables::uniforms::sets_of` meets its contract. The loop's invariant: the number of sets of i stations.
 -- Assumes nothing.
-use mathlib.Core.Path.{◌≡◌, ◌∙◌}
-use Prim.Native.Nat.{◌+◌, ◌-◌, ◌*◌, ◌/◌, ◌≤◌}
+use mathlib.Core.Path.{◌≡◌}
+use Prim.Native.Nat.{◌-◌, ◌≤◌}
 use Rattle.stations.specs.Sizes.{choose}
 use Rattle.tables.proofs.uniforms.sets_of.Given as goal
 
