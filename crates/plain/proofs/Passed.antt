@@ -15,12 +15,12 @@ use Rattle.plain.specs.Delivery.{delivery_tests, delivery_refusal}
 use Rattle.plain.specs.Down.{taken_at, down_passes_of, down_tests, received_as, returned, received, returning, down}
 use Rattle.plain.specs.Inner.Passed.{Requests, Delivers, Releases, Withdraws}
 use Rattle.plain.specs.InRange.{in_range}
-use Rattle.plain.specs.Lanes.{is_empty, oldest, no_place}
-use Rattle.plain.specs.Release.{is_holding, some_passes, back_passes, release_tests, release_refusal, given_back, released, held, release}
+use Rattle.plain.specs.Lanes.{is_empty, no_place}
+use Rattle.plain.specs.Release.{is_holding, some_passes, release_tests, release_refusal, given_back, released, held, release}
 use Rattle.plain.specs.Request.{is_idle, request_passes, request_tests, request_refusal, requested, request_returns, request}
 use Rattle.plain.specs.State.{State}
 use Rattle.plain.specs.Up.{up_passes, up_tests, delivered_of, delivered, up}
-use Rattle.plain.specs.Withdraw.{is_collecting, leaving_passes, withdraw_passes, withdraw_tests, withdraw_refusal, given_up, withdrawn, withdraw}
+use Rattle.plain.specs.Withdraw.{is_collecting, leaving_passes, withdraw_tests, withdraw_refusal, given_up, withdrawn, withdraw}
 use Rattle.plain.specs.declared.Message.{Message}
 use Rattle.plain.specs.declared.Phase.{Phase}
 use Rattle.plain.specs.declared.Phase.TheVariants.{Idle, Collecting, Holding, Withdrawing}

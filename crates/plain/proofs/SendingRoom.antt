@@ -4,7 +4,7 @@
 use mathlib.Core.Bool.{false, and-false}
 use mathlib.Core.List.{List}
 use mathlib.Core.Logic.{by_cases}
-use mathlib.Core.Path.{◌≡◌, refl}
+use mathlib.Core.Path.{◌≡◌}
 use Prim.Native.Nat.{ℕ, ◌≤◌}
 use native.Mathlib.Decide.{ℕ_discrete}
 use native.Mathlib.Omega.{arith}
@@ -18,7 +18,7 @@ use Rattle.units.specs.declared.Units.{Units}
 use Rattle.plain.specs.Asking.{asked}
 use Rattle.plain.specs.Inner.Passed.{Requests, Releases, Withdraws}
 use Rattle.plain.specs.Lanes.{up_places, passes, sent}
-use Rattle.plain.specs.Release.{releasing, release_passes, any_passes, some_passes, given_back}
+use Rattle.plain.specs.Release.{releasing, release_passes, some_passes, given_back}
 use Rattle.plain.specs.Request.{lowest, request_passes, requested}
 use Rattle.plain.specs.State.{State}
 use Rattle.plain.specs.Withdraw.{below, withdrawing, leaving_passes, given_up}

@@ -9,7 +9,7 @@ use native.Mathlib.Decide.{ℕ_discrete}
 use lib.Dec.{eqb, ltb}
 use lib.ListN.{length}
 use borrow.Author.Tests.{eq-eqb, ne_eqb, lt-ltb, ltb-true}
-use Rattle.lists.specs.At.{at, at2}
+use Rattle.lists.specs.At.{at2}
 use Rattle.lists.specs.Search.{all, some_below}
 use Rattle.lists.proofs.Changed.{at_all, at2-all}
 use Rattle.lists.proofs.Searches.{every_true, some-never, all_append}

@@ -9,7 +9,6 @@ use native.Mathlib.Omega.{arith}
 use lib.Dec.{ltb}
 use lib.ListN.{length}
 use borrow.Author.Tests.{lt-ltb}
-use Rattle.lists.specs.At.{at}
 use Rattle.lists.specs.Counting.{total}
 use Rattle.lists.proofs.Changed.{at_same, at_other, at2-same, at2_other}
 use Rattle.stations.specs.Member.{member}

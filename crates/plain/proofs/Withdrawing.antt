@@ -8,7 +8,6 @@ use native.Mathlib.Omega.{arith}
 use lib.Dec.{ltb}
 use lib.ListN.{length}
 use lib.Pow.{pow_pos}
-use Rattle.lists.specs.At.{at}
 use Rattle.lists.proofs.Changed.{at_same, at_other}
 use Rattle.lists.proofs.Tests.{and_right}
 use Rattle.stations.specs.Member.{member}

@@ -18,7 +18,6 @@ use Rattle.quorum.specs.FirstFamily.{first_family}
 use Rattle.quorum.specs.Inner.Need.{Needs, no_need, size_of}
 use Rattle.quorum.specs.Limits.{broken_limit}
 use Rattle.quorum.specs.Nested.{nested}
-use Rattle.quorum.specs.Refusal.{refusal}
 use Rattle.quorum.specs.Scratch.{scratch_bytes}
 use Rattle.quorum.specs.Width.{width, lacks_common}
 use Rattle.quorum.proofs.LimitLaws.{limits_kept, limit_most}

@@ -1,17 +1,16 @@
 -- What a value of a declared type tells: the lengths of its arrays, also of those within its elements.
 -- Assumes nothing.
-use mathlib.Core.List.{List, [], ◌∷◌, map}
-use mathlib.Core.Path.{◌≡◌, sym, ◌∙◌}
+use mathlib.Core.List.{List, [], ◌∷◌}
+use mathlib.Core.Path.{◌≡◌}
 use Prim.Native.Nat.{ℕ, zero, suc, ◌<◌}
 use native.Mathlib.Nat.{not-suc-le-zero, le_of_suc-le-suc}
-use lib.ListN.{length, get_or, length-map}
+use lib.ListN.{length, get_or}
 use mir.Val.{Val}
 use denote.Array.{each}
 use denote.Laws.{Is}
 use denote.RattleType.{RattleType}
 use denote.Shadow.{shadow}
-use denote.Struct.Declared.{row, shape}
-use denote.Struct.Struct.{Struct}
+use denote.Struct.Declared.{row}
 use Rattle.plain.specs.Lanes.{up_places, line_places}
 use Rattle.records.specs.View.{no_row}
 use Rattle.records.specs.declared.Arbiter.{Arbiter}

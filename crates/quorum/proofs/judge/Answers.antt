@@ -24,14 +24,21 @@ lacks-requires c =
 pub first_family-family-requires : goal.first_family-family-requires
 first_family-family-requires c =
     let fill = c.fill in
-    let limits = limits_kept c.args.n c.args.k c.args.quorums.now c.requires.0 in record { n_nonzero = (limits.stations.0, limits.stations.1, limits.quorums.1, omega (arith, c.requires.1, fill.auto.scratch)); needs = fill.ensures.needs; fact = byte_finite c.args.n c.args.k c.args.quorums.now (length c.args.scratch.now) c.requires.0 c.requires.1 fill.new.scratch fill.ensures.needs
-            c.width_of-width.result c.width_of-width.ensures (sym c.lacks.ensures ∙ c.if-lacks.true) }
+    let limits = limits_kept c.args.n c.args.k c.args.quorums.now c.requires.0 in record {
+      n_nonzero = (limits.stations.0, limits.stations.1, limits.quorums.1, omega (arith, c.requires.1, fill.auto.scratch));
+      needs = fill.ensures.needs;
+      fact = byte_finite c.args.n c.args.k c.args.quorums.now (length c.args.scratch.now) c.requires.0 c.requires.1 fill.new.scratch fill.ensures.needs
+          c.width_of-width.result c.width_of-width.ensures (sym c.lacks.ensures ∙ c.if-lacks.true);
+    }
 
 pub returns-then-lacks : goal.returns-then-lacks
 returns-then-lacks c =
-    let fill = c.fill in record { answered = six c.args.n c.args.k c.args.quorums.now (length c.args.scratch.now) c.requires.0 c.requires.1 fill.new.scratch fill.ensures.needs
+    let fill = c.fill in record {
+      answered = six c.args.n c.args.k c.args.quorums.now (length c.args.scratch.now) c.requires.0 c.requires.1 fill.new.scratch fill.ensures.needs
           c.width_of-width.result c.width_of-width.ensures (sym c.lacks.ensures ∙ c.if-lacks.true)
-          c.first_family-family.result c.first_family-family.ensures c.evenness-even.result c.evenness-even.ensures; beyond = fill.ensures.beyond }
+          c.first_family-family.result c.first_family-family.ensures c.evenness-even.result c.evenness-even.ensures;
+      beyond = fill.ensures.beyond;
+    }
 
 pub answer_nested_or_not-requires : goal.answer_nested_or_not-requires
 answer_nested_or_not-requires c =
@@ -41,5 +48,8 @@ answer_nested_or_not-requires c =
 
 pub returns : goal.returns
 returns c =
-    let fill = c.fill in record { answered = seven_or_none c.args.n c.args.k c.args.quorums.now (length c.args.scratch.now) c.requires.0 c.requires.1 fill.new.scratch fill.ensures.needs
-          c.width_of-width.result c.width_of-width.ensures (sym c.lacks.ensures ∙ c.if-lacks.false) (said c.answer_nested_or_not.result) c.answer_nested_or_not.ensures; beyond = fill.ensures.beyond }
+    let fill = c.fill in record {
+      answered = seven_or_none c.args.n c.args.k c.args.quorums.now (length c.args.scratch.now) c.requires.0 c.requires.1 fill.new.scratch fill.ensures.needs
+          c.width_of-width.result c.width_of-width.ensures (sym c.lacks.ensures ∙ c.if-lacks.false) (said c.answer_nested_or_not.result) c.answer_nested_or_not.ensures;
+      beyond = fill.ensures.beyond;
+    }

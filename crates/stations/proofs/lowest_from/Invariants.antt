@@ -1,7 +1,7 @@
 -- `stations::lowest_from` meets its contract. The loop's invariant: the lowest member from i on, and how many members there are from i on.
 -- Assumes nothing.
-use mathlib.Core.Path.{◌≡◌, ◌∙◌}
-use Prim.Native.Nat.{◌+◌, ◌-◌, ◌≤◌, min}
+use mathlib.Core.Path.{◌≡◌}
+use Prim.Native.Nat.{◌≤◌, min}
 use Rattle.stations.specs.Sets.{lowest_from, members_from, places}
 use Rattle.stations.proofs.lowest_from.Given as goal
 

@@ -2,7 +2,6 @@
 -- Assumes nothing.
 use mathlib.Core.Logic.{inl, inr}
 use mathlib.Core.Path.{sym, ◌∙◌}
-use Prim.Native.Nat.{◌-◌}
 use Rattle.lists.proofs.Cuts.{all-cut}
 use Rattle.lists.proofs.Searches.{tested_none, tested_more, tested_left}
 use Rattle.arbiters.proofs.delivery.all_of.Goals as goal

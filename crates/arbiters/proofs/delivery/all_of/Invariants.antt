@@ -1,6 +1,5 @@
 -- `arbiters::delivery::all_of` meets its contract. All entries before the one in hand are of stations below n.
 -- Assumes nothing.
-use mathlib.Core.Path.{◌∙◌}
 use Prim.Native.Nat.{◌-◌}
 use lib.ListN.{get_or}
 use Rattle.lists.proofs.Searches.{Tested}

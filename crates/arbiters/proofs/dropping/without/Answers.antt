@@ -1,7 +1,6 @@
 -- `arbiters::dropping::without` meets its contract. What was kept before entry i, and what is kept of the rest.
 -- Assumes nothing.
-use mathlib.Core.Path.{◌≡◌, refl, sym, ◌∙◌}
-use Prim.Native.Nat.{◌≤◌, ◌-◌}
+use mathlib.Core.Path.{refl, sym, ◌∙◌}
 use native.Mathlib.Omega.{arith}
 use borrow.Author.Rules.{rules}
 use Rattle.arbiters.proofs.DroppingEntries.{keeps-one, drops-one, drops_end}

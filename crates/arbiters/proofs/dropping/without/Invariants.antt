@@ -1,6 +1,6 @@
 -- `arbiters::dropping::without` meets its contract. What was kept before entry i, and what is kept of the rest.
 -- Assumes nothing.
-use mathlib.Core.Path.{◌≡◌, ◌∙◌}
+use mathlib.Core.Path.{◌≡◌}
 use Prim.Native.Nat.{◌≤◌, ◌-◌}
 use lib.ListN.{length}
 use Rattle.lists.specs.Cut.{cut}

@@ -1,7 +1,7 @@
 -- `arbiters::lending::granted_set` meets its contract. The stations below the one in hand that are granted.
 -- Assumes nothing.
-use mathlib.Core.Path.{◌≡◌, ◌∙◌}
-use Prim.Native.Nat.{◌≤◌, ◌+◌, ◌-◌}
+use mathlib.Core.Path.{◌≡◌}
+use Prim.Native.Nat.{◌≤◌, ◌-◌}
 use Rattle.lists.specs.Cut.{cut}
 use Rattle.stations.specs.Sets.{set_of}
 use Rattle.records.specs.View.{no_entry}

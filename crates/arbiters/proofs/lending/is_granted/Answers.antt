@@ -1,7 +1,6 @@
 -- `arbiters::lending::is_granted` meets its contract. No entry before the one in hand is of the station.
 -- Assumes nothing.
-use mathlib.Core.Path.{◌≡◌, refl, sym, ◌∙◌}
-use Prim.Native.Nat.{◌≤◌, ◌-◌}
+use mathlib.Core.Path.{refl, sym, ◌∙◌}
 use native.Mathlib.Omega.{arith}
 use borrow.Author.Rules.{rules}
 use Rattle.arbiters.proofs.LendingArbiter.{granted-here, granted_later, granted-none}

@@ -1,6 +1,6 @@
 -- `arbiters::lending::is_granted` meets its contract. No entry before the one in hand is of the station.
 -- Assumes nothing.
-use mathlib.Core.Path.{◌≡◌, ◌∙◌}
+use mathlib.Core.Path.{◌≡◌}
 use Prim.Native.Nat.{◌≤◌, ◌-◌}
 use lib.ListN.{drop}
 use Rattle.lists.specs.Cut.{cut}

@@ -1,13 +1,11 @@
 -- `arbiters::service::serve` meets its contract. What was granted before entry i, and what service makes of the rest; the loop ends where an entry does not fit, or at the end of the line.
 -- Assumes nothing.
 use mathlib.Core.List.{List}
-use mathlib.Core.Logic.{⊎_elim}
 use mathlib.Core.Path.{◌≡◌, refl, sym, ap, ◌∙◌}
-use Prim.Native.Nat.{◌≤◌, ◌+◌, ◌-◌}
+use Prim.Native.Nat.{◌+◌, ◌-◌}
 use native.Mathlib.Omega.{arith}
 use lib.ListN.{drop}
 use borrow.Author.Rules.{rules}
-use borrow.Author.Tests.{not-true}
 use Rattle.lists.specs.Cut.{cut}
 use Rattle.units.specs.Granted.{granted_of}
 use Rattle.plain.specs.Arbiter.{Served, serve}

@@ -1,7 +1,7 @@
 -- `arbiters::service::serve` meets its contract. What was granted before entry i, and what service makes of the rest; the loop ends where an entry does not fit, or at the end of the line.
 -- Assumes nothing.
-use mathlib.Core.Path.{◌≡◌, ◌∙◌}
-use Prim.Native.Nat.{◌≤◌, ◌+◌, ◌-◌}
+use mathlib.Core.Path.{◌≡◌}
+use Prim.Native.Nat.{◌≤◌, ◌-◌}
 use lib.ListN.{length}
 use Rattle.lists.specs.Cut.{cut}
 use Rattle.units.specs.Granted.{granted_of}

@@ -1,7 +1,7 @@
 -- `arbiters::service::shifted` meets its contract. The places before the one in hand have what stands `by` places on.
 -- Assumes nothing.
 use mathlib.Core.Path.{◌∙◌, ◌≡◌}
-use Prim.Native.Nat.{◌+◌, ◌≤◌, ◌<◌, ◌-◌}
+use Prim.Native.Nat.{◌+◌}
 use native.Mathlib.Omega.{arith}
 use lib.ListN.{get_or}
 use lib.Seq.{get_or-set_same, get_or-set_other}

@@ -1,6 +1,6 @@
 -- `arbiters::service::shifted` meets its contract. The places before the one in hand have what stands `by` places on.
 -- Assumes nothing.
-use mathlib.Core.Path.{◌∙◌, ◌≡◌}
+use mathlib.Core.Path.{◌≡◌}
 use Prim.Native.Nat.{ℕ, ◌+◌, ◌≤◌, ◌<◌, ◌-◌}
 use lib.ListN.{length, get_or}
 use Rattle.records.specs.View.{no_entry}

@@ -1,7 +1,7 @@
 -- `quorum::even::equal_shares` meets its contract. The loop's invariant: every station below i belongs to as many quorums as station 0.
 -- Assumes nothing.
 use mathlib.Core.Bool.{true}
-use mathlib.Core.Path.{◌≡◌, ◌∙◌}
+use mathlib.Core.Path.{◌≡◌}
 use Prim.Native.Nat.{ℕ, ◌<◌, ◌-◌}
 use lib.Dec.{eqb}
 use Rattle.quorum.specs.Even.{belongs}

@@ -1,7 +1,7 @@
 -- `quorum::even::equal_sizes` meets its contract. The loop's invariant: every quorum before p has the size of the first.
 -- Assumes nothing.
 use mathlib.Core.Bool.{true}
-use mathlib.Core.Path.{◌≡◌, ◌∙◌}
+use mathlib.Core.Path.{◌≡◌}
 use Prim.Native.Nat.{ℕ, ◌≤◌, ◌<◌, ◌-◌}
 use lib.Dec.{eqb}
 use lib.ListN.{length}

@@ -1,7 +1,6 @@
 -- `quorum::even::quorums_of` meets its contract. The loop's invariant: the quorums counted and those from p on add up to all.
 -- Assumes nothing.
-use mathlib.Core.Path.{◌≡◌, sym, ◌∙◌}
-use Prim.Native.Nat.{◌+◌, ◌≤◌, ◌-◌}
+use mathlib.Core.Path.{sym, ◌∙◌}
 use native.Mathlib.Omega.{arith}
 use Rattle.quorum.proofs.Evenness.{belongs-member, belongs_other, belongs_end}
 use Rattle.quorum.proofs.even.quorums_of.Goals as goal

@@ -1,6 +1,6 @@
 -- `quorum::even::quorums_of` meets its contract. The loop's invariant: the quorums counted and those from p on add up to all.
 -- Assumes nothing.
-use mathlib.Core.Path.{◌≡◌, ◌∙◌}
+use mathlib.Core.Path.{◌≡◌}
 use Prim.Native.Nat.{◌+◌, ◌≤◌, ◌-◌}
 use lib.ListN.{length, drop}
 use Rattle.quorum.specs.Even.{belongs}

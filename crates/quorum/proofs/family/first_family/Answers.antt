@@ -1,7 +1,6 @@
 -- `quorum::family::first_family` meets its contract. The loop's invariant is `Taking`: what is taken, and what will be, are the lowering quorums.
 -- Assumes nothing.
 use mathlib.Core.Path.{refl, ◌∙◌}
-use Prim.Native.Nat.{◌-◌}
 use native.Mathlib.Omega.{arith}
 use lib.Bits.{and_le_l}
 use lib.ListN.{get_or}

@@ -1,6 +1,5 @@
 -- `quorum::family::first_family` meets its contract. The loop's invariant is `Taking`: what is taken, and what will be, are the lowering quorums.
 -- Assumes nothing.
-use mathlib.Core.Path.{◌∙◌}
 use Prim.Native.Nat.{◌-◌}
 use lib.ListN.{length}
 use Rattle.quorum.proofs.Taking.{Taking}

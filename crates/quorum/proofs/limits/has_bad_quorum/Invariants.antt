@@ -1,7 +1,7 @@
 -- `quorum::limits::has_bad_quorum` meets its contract. The loop's invariant: from p on the table has a bad quorum exactly when it has one at all.
 -- Assumes nothing.
-use mathlib.Core.Path.{◌≡◌, ◌∙◌}
-use Prim.Native.Nat.{◌≤◌, ◌-◌, ◌^◌}
+use mathlib.Core.Path.{◌≡◌}
+use Prim.Native.Nat.{◌≤◌, ◌-◌}
 use lib.ListN.{length, drop}
 use Rattle.lists.specs.Search.{any}
 use Rattle.stations.specs.Sets.{everyone}

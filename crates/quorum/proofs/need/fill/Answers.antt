@@ -1,7 +1,6 @@
 -- `quorum::need::fill` meets its contract. The loop's invariant: the byte of every set of stations below i says what that set needs, and nothing beyond the 4,096 bytes has changed.
 -- Assumes nothing.
 use mathlib.Core.Path.{◌≡◌, refl, ◌∙◌}
-use Prim.Native.Nat.{◌≤◌, ◌-◌}
 use native.Mathlib.Omega.{arith}
 use lib.ListN.{length-set}
 use lib.Seq.{drop-set-lt}

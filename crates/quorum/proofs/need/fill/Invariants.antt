@@ -1,6 +1,6 @@
 -- `quorum::need::fill` meets its contract. The loop's invariant: the byte of every set of stations below i says what that set needs, and nothing beyond the 4,096 bytes has changed.
 -- Assumes nothing.
-use mathlib.Core.Path.{◌≡◌, ◌∙◌}
+use mathlib.Core.Path.{◌≡◌}
 use Prim.Native.Nat.{◌≤◌, ◌-◌}
 use lib.ListN.{length, drop}
 use Rattle.quorum.specs.Inner.Need.{Needs}

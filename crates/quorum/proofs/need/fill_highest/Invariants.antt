@@ -1,6 +1,6 @@
 -- `quorum::need::fill_highest` meets its contract. The loop's invariant: the byte of every smaller set says what that set needs, and nothing beyond the 4,096 bytes has changed.
 -- Assumes nothing.
-use mathlib.Core.Path.{◌≡◌, ◌∙◌}
+use mathlib.Core.Path.{◌≡◌}
 use Prim.Native.Nat.{ℕ, ◌+◌, ◌≤◌, ◌<◌, ◌-◌, ◌^◌}
 use lib.ListN.{length, drop, get_or}
 use Rattle.quorum.specs.Inner.Need.{Need}

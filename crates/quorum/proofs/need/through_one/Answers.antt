@@ -1,7 +1,7 @@
 -- `quorum::need::through_one` meets its contract. The loop's invariant: the least byte from p on, with what was found before, is the least of all.
 -- Assumes nothing.
 use mathlib.Core.Path.{◌≡◌, sym, ap, ◌∙◌}
-use Prim.Native.Nat.{ℕ, ◌+◌, ◌≤◌, ◌-◌, min}
+use Prim.Native.Nat.{ℕ, ◌+◌, min}
 use native.Mathlib.Omega.{arith}
 use lib.Bits.{bit_and, and_le_l}
 use lib.ListN.{drop, get_or, length-drop}

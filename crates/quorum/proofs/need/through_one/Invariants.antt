@@ -1,7 +1,7 @@
 -- `quorum::need::through_one` meets its contract. The loop's invariant: the least byte from p on, with what was found before, is the least of all.
 -- Assumes nothing.
-use mathlib.Core.Path.{◌≡◌, ◌∙◌}
-use Prim.Native.Nat.{◌+◌, ◌≤◌, ◌-◌}
+use mathlib.Core.Path.{◌≡◌}
+use Prim.Native.Nat.{◌≤◌, ◌-◌}
 use lib.ListN.{length, drop}
 use Rattle.quorum.specs.Inner.Need.{no_need, least_byte}
 use Rattle.quorum.proofs.need.through_one.Given as goal

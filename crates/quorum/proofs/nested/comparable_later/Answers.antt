@@ -1,7 +1,6 @@
 -- `quorum::nested::comparable_later` meets its contract. The loop's invariant: from q on there is a comparable quorum exactly when there is a later one at all.
 -- Assumes nothing.
-use mathlib.Core.Path.{◌≡◌, sym, ◌∙◌}
-use Prim.Native.Nat.{◌+◌, ◌≤◌, ◌-◌}
+use mathlib.Core.Path.{sym, ◌∙◌}
 use native.Mathlib.Omega.{arith}
 use lib.ListN.{get_or}
 use borrow.Author.Rules.{rules}

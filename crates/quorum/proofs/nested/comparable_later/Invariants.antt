@@ -1,6 +1,6 @@
 -- `quorum::nested::comparable_later` meets its contract. The loop's invariant: from q on there is a comparable quorum exactly when there is a later one at all.
 -- Assumes nothing.
-use mathlib.Core.Path.{◌≡◌, ◌∙◌}
+use mathlib.Core.Path.{◌≡◌}
 use Prim.Native.Nat.{◌+◌, ◌≤◌, ◌-◌}
 use lib.ListN.{length, drop}
 use Rattle.lists.specs.Search.{any}

@@ -1,7 +1,6 @@
 -- `quorum::nested::is_nested` meets its contract. The loop's invariant: from p on the table is nested exactly when it is nested.
 -- Assumes nothing.
-use mathlib.Core.Path.{◌≡◌, sym, ◌∙◌}
-use Prim.Native.Nat.{◌≤◌, ◌-◌}
+use mathlib.Core.Path.{sym, ◌∙◌}
 use native.Mathlib.Omega.{arith}
 use borrow.Author.Rules.{rules}
 use Rattle.quorum.proofs.Minimality.{nested-here, nested_later, nested_end}

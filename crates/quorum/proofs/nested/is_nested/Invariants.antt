@@ -1,6 +1,6 @@
 -- `quorum::nested::is_nested` meets its contract. The loop's invariant: from p on the table is nested exactly when it is nested.
 -- Assumes nothing.
-use mathlib.Core.Path.{◌≡◌, ◌∙◌}
+use mathlib.Core.Path.{◌≡◌}
 use Prim.Native.Nat.{◌≤◌, ◌-◌}
 use lib.ListN.{length, drop}
 use Rattle.quorum.specs.Nested.{nested}

@@ -1,7 +1,7 @@
 -- `quorum::scratch::clean` meets its contract. The loop's invariant: zeros up to i, and the rest as it was.
 -- Assumes nothing.
 use mathlib.Core.List.{◌++◌}
-use mathlib.Core.Path.{◌≡◌, ◌∙◌}
+use mathlib.Core.Path.{◌≡◌}
 use Prim.Native.Nat.{◌≤◌, ◌-◌}
 use lib.ListN.{length, drop, replicate}
 use Rattle.quorum.proofs.scratch.clean.Given as goal

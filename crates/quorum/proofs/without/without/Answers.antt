@@ -1,7 +1,6 @@
 -- `quorum::without::without` meets its contract. The loop's invariant is `Leaving`: what is found, and what will be, are the quorums without the station.
 -- Assumes nothing.
 use mathlib.Core.Path.{refl, sym, ◌∙◌}
-use Prim.Native.Nat.{◌-◌}
 use native.Mathlib.Omega.{arith}
 use lib.ListN.{length}
 use borrow.Author.Rules.{rules}

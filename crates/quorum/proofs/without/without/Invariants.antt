@@ -1,6 +1,5 @@
 -- `quorum::without::without` meets its contract. The loop's invariant is `Leaving`: what is found, and what will be, are the quorums without the station.
 -- Assumes nothing.
-use mathlib.Core.Path.{◌∙◌}
 use Prim.Native.Nat.{◌-◌}
 use lib.ListN.{length}
 use Rattle.quorum.proofs.Leaving.{Leaving}

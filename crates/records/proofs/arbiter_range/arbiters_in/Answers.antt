@@ -2,7 +2,6 @@
 -- Assumes nothing.
 use mathlib.Core.Logic.{inl, inr}
 use mathlib.Core.Path.{sym, ◌∙◌}
-use Prim.Native.Nat.{◌-◌}
 use Rattle.lists.proofs.Searches.{tested_none, tested_more, tested_left}
 use Rattle.records.proofs.Ranging.{arbiters_in}
 use Rattle.records.proofs.arbiter_range.arbiters_in.Goals as goal

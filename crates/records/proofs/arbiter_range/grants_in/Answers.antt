@@ -2,7 +2,6 @@
 -- Assumes nothing.
 use mathlib.Core.Logic.{inl, inr}
 use mathlib.Core.Path.{sym, ◌∙◌}
-use Prim.Native.Nat.{◌-◌}
 use Rattle.lists.proofs.Searches.{tested_none, tested_more, tested_left}
 use Rattle.records.proofs.arbiter_range.grants_in.Goals as goal
 use Rattle.records.proofs.arbiter_range.grants_in.Goals.{then-loop-s-test+else-grant_in, else-loop-s-test}

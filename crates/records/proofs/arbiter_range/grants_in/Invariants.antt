@@ -1,6 +1,5 @@
 -- `records::arbiter_range::grants_in` meets its contract. All stations before the one in hand have units in range.
 -- Assumes nothing.
-use mathlib.Core.Path.{◌∙◌}
 use Prim.Native.Nat.{◌-◌}
 use lib.ListN.{get_or}
 use Rattle.lists.proofs.Searches.{Tested}

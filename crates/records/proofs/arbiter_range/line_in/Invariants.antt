@@ -1,6 +1,5 @@
 -- `records::arbiter_range::line_in` meets its contract. All entries before the one in hand are in range.
 -- Assumes nothing.
-use mathlib.Core.Path.{◌∙◌}
 use Prim.Native.Nat.{◌-◌}
 use lib.ListN.{get_or}
 use Rattle.lists.proofs.Searches.{Tested}

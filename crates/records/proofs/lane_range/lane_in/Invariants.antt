@@ -1,6 +1,5 @@
 -- `records::lane_range::lane_in` meets its contract. All messages before the one in hand may stand in the lane.
 -- Assumes nothing.
-use mathlib.Core.Path.{◌∙◌}
 use Prim.Native.Nat.{◌-◌}
 use lib.ListN.{get_or}
 use Rattle.lists.proofs.Searches.{Tested}

@@ -2,7 +2,6 @@
 -- Assumes nothing.
 use mathlib.Core.Logic.{inl, inr}
 use mathlib.Core.Path.{sym, ◌∙◌}
-use Prim.Native.Nat.{◌-◌}
 use Rattle.lists.proofs.Searches.{tested_none, tested_more, tested_left}
 use Rattle.records.proofs.Ranging.{lanes_in_lem}
 use Rattle.records.proofs.lane_range.lanes_in.Goals as goal

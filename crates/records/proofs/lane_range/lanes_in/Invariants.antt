@@ -1,6 +1,5 @@
 -- `records::lane_range::lanes_in` meets its contract. All rows before the one in hand are in range.
 -- Assumes nothing.
-use mathlib.Core.Path.{◌∙◌}
 use Prim.Native.Nat.{◌-◌}
 use lib.ListN.{get_or}
 use Rattle.lists.proofs.Searches.{Tested}

@@ -1,8 +1,7 @@
 -- `records::station_range::stations_in` meets its contract. All stations before the one in hand are in range.
 -- Assumes nothing.
 use mathlib.Core.Logic.{inl, inr}
-use mathlib.Core.Path.{◌≡◌, sym, ◌∙◌}
-use Prim.Native.Nat.{◌≤◌, ◌-◌}
+use mathlib.Core.Path.{sym, ◌∙◌}
 use borrow.Author.Rules.{rules}
 use Rattle.lists.proofs.Searches.{tested_none, tested_more, tested_left}
 use Rattle.records.proofs.Ranging.{stations_in_lem}

@@ -1,7 +1,7 @@
 -- `records::station_range::stations_in` meets its contract. All stations before the one in hand are in range.
 -- Assumes nothing.
 use mathlib.Core.List.{List}
-use mathlib.Core.Path.{◌≡◌, ◌∙◌}
+use mathlib.Core.Path.{◌≡◌}
 use Prim.Native.Nat.{ℕ, ◌≤◌, ◌-◌}
 use lib.ListN.{length, get_or}
 use Rattle.lists.proofs.Searches.{Tested}
