@@ -3,3 +3,5 @@ pub mod PerformingCalls
 pub mod GoingOn
 pub mod PerformingList
 pub mod AnswerWords
+pub mod ReturningCall
+pub mod StartingRecord
