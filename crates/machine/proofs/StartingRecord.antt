@@ -14,6 +14,7 @@ use mir.Syntax.{w8, w16}
 use mir.Val.{Val, vint}
 use ghost.Model as Closed
 use contract.BorrowModel.{logic₀}
+use contract.Closed.{model⁺}
 use denote.Laws.{Is}
 use denote.Array.{each, array_val, Array-Makes}
 use denote.Plain.{UInt}
@@ -33,6 +34,7 @@ use Rattle.plain.specs.State.{fresh}
 use Rattle.records.specs.View.{view}
 use Rattle.records.specs.declared.Record.{Record}
 use Rattle.records.specs.contracts.Record.{the_row as the_record}
+use Rattle.machine.proofs.Program.{program, blank-wired}
 use Rattle.machine.proofs.ReturningCall.{Had, 𝓡₀, number_had, returns}
 use Rattle.machine.proofs.opening.blank.Kinds as kinds
 use Rattle.machine.proofs.opening.blank.Met as met
@@ -66,7 +68,7 @@ module _ (n : ℕ) (stock : Units) (table : List ℕ) (kept : broken_limit n (as
   pub fresh-held : ∥ ((r : Record) × (w : Val) × Is the_record r (w ∷ []) × (view r ≡ fresh n stock table)) ∥₁
   fresh-held =
       let s = units-held stock limits.stock.1 in
-      ∥∥₁_map (returns kinds.ps kinds.r blank.Asked blank.Learnt code.routine blank.known (met.met Closed.𝓤 logic₀ Closed.model 𝓡₀) tt
+      ∥∥₁_map (returns kinds.ps kinds.r blank.Asked blank.Learnt program code.name blank.known (met.met Closed.𝓤 logic₀ model⁺ (𝓡₀ program) blank-wired) tt
       (number_had w8, (units_had, (number_had w8, (Array-Makes logic₀ (UInt w16) (number_had w16) most_quorums, tt))))
       (n, (stock, (length table, (filled_table, tt)))) (vint w8 n ∷ [], (s.0 ∷ [], (vint w8 (length table) ∷ [], (array_val (map (vint w16) filled_table) ∷ [], tt))))
       ((refl, omega (arith, limits.stations)), (s.1, ((refl, omega (arith, limits.quorums)), ((map (vint w16) filled_table, ((refl, length_cut 0 most_quorums table), each_fits filled_table table_fits)), tt)))) tt
