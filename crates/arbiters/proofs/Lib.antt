@@ -4,3 +4,4 @@ pub mod ArrivingMessage
 pub mod TellingArbiter
 pub mod LendingArbiter
 pub mod LendingExamples
+pub mod Links

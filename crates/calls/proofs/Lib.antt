@@ -11,3 +11,4 @@ pub mod GivingBack
 pub mod ReplyingGone
 pub mod WithdrawingRow
 pub mod GivingUp
+pub mod Links

@@ -1,7 +1,7 @@
 -- Demand 3, the one claim over whole lists of calls, in its parts.
 use Rattle.std.specs.Prelude.{List, [], ◌∷◌, map, ◌≡◌, ℕ, ◌+◌, ◌*◌, ◌≤◌, length, take}
 use contract.Lifetimes.{Lfts}
-use Rattle.std.specs.Borrow.{Bor}
+use Rattle.std.specs.Borrow.{Bor, MutBor}
 use Rattle.quorum.specs.Scratch.{scratch_bytes}
 use Rattle.units.specs.Units.{asked_with, asked_by, number_of}
 use Rattle.units.specs.declared.Units.{Units}
@@ -51,7 +51,7 @@ module _ (n : ℕ) (stock : Units) (table : List ℕ) where
   -- The same of a lent list of calls that `perform` does not refuse, and of the numbers that it wrote; `written` are the lent
   -- answers afterwards.
   abbrev pub Performs : Type 0
-  Performs = (r : Record) (calls answers written : Bor (List ℕ)) (performed : Performed) (κs : Lfts 2)
+  Performs = (r : Record) (calls : Bor (List ℕ)) (answers written : MutBor (List ℕ)) (performed : Performed) (κs : Lfts 2)
       → perform-reads.Learnt κs (r, (calls, (answers, tt))) performed (r, (calls, (written, tt)))
       → view r ≡ fresh n stock table → performed.refusal ≡ 0
       → (numbers : List ℕ) → numbers ≡ take (answer_words * length (calls_of calls.now)) written.now
@@ -59,7 +59,7 @@ module _ (n : ℕ) (stock : Units) (table : List ℕ) where
 
   -- (b) "opening, lent enough scratch, gives one": a call of `open` on the table; `left` is the scratch afterwards
   abbrev pub Opens : Type 0
-  Opens = (quorums scratch left : Bor (List ℕ)) (opened : Opened) (κs : Lfts 2)
+  Opens = (quorums : Bor (List ℕ)) (scratch left : MutBor (List ℕ)) (opened : Opened) (κs : Lfts 2)
       → open-reads.Learnt κs (n, (number_of stock, (quorums, (scratch, tt)))) opened (n, (number_of stock, (quorums, (left, tt))))
       → quorums.now ≡ table → scratch_bytes ≤ length scratch.now → (opened.refusal ≡ 0) × (view opened.«record» ≡ fresh n stock table)
 

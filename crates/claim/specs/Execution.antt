@@ -1,9 +1,10 @@
--- A list of calls, run by the machine of the logic, which is the definition of what a Rattle program does.
+-- A list of calls, run by the machine of the logic, which is the definition of what a Rattle program does, in any program that has the five calls.
 use Rattle.std.specs.Prelude.{List, [], ◌∷◌, map, ℕ, zero, suc, ◌<◌, ◌^◌}
 use Rattle.std.specs.Int.{w64}
-use mir.Val.{Val, Vals, vunit, vbool, vint, vfloat, vptr, vstruct, vnil, vcons}
+use mir.Val.{Val, Vals, vunit, vbool, vint, vfloat, vptr, vcode, vstruct, vnil, vcons}
 use prog.Memory.{Memory}
-use prog.Routine.{Routine, ends}
+use prog.Routine.{Callee, Env, ends}
+use prog.Wired.{Wired}
 use denote.Laws.{Is}
 use Rattle.units.specs.Units.{number_of}
 use Rattle.plain.specs.Run.{Call}
@@ -32,13 +33,18 @@ AreAnswers [] (v ∷ vs) = ⊥
 AreAnswers (a ∷ answers) [] = ⊥
 AreAnswers (a ∷ answers) (v ∷ vs) = IsAnswer a v × AreAnswers answers vs
 
--- the exported function that a call is of, as the machine runs it
-abbrev pub routine_of : Call → Routine
-routine_of (Call.Request s q h) = request.routine
-routine_of (Call.Up s j) = up.routine
-routine_of (Call.Down s j) = down.routine
-routine_of (Call.Release s) = release.routine
-routine_of (Call.Withdraw s) = withdraw.routine
+-- the exported function that a call is of
+abbrev pub name_of : Call → Callee
+name_of (Call.Request s q h) = request.name
+name_of (Call.Up s j) = up.name
+name_of (Call.Down s j) = down.name
+name_of (Call.Release s) = release.name
+name_of (Call.Withdraw s) = withdraw.name
+
+-- γ is what each name means in a program, and the program has the five calls: each of the five functions, and each that they name, does in it what
+-- its code does, and no more.
+abbrev pub HasCalls : Env → Type 0
+HasCalls γ = Wired γ request.code × Wired γ up.code × Wired γ down.code × Wired γ release.code × Wired γ withdraw.code
 
 -- the numbers that it is passed behind the record
 abbrev pub arguments_of : Call → List ℕ
@@ -57,9 +63,9 @@ abbrev pub AllFit : List Call → Type 0
 AllFit [] = Unit {0}
 AllFit (c ∷ calls) = Fit (arguments_of c) × AllFit calls
 
--- the call, passed the record's value w and its numbers in the memory σ, ends: it returns v and leaves the memory σ'
-abbrev pub Gives : Val → Call → Memory → Val → Memory → Type 0
-Gives w c σ v σ' = ends (routine_of c) (w ∷ map (vint w64) (arguments_of c)) σ v σ'
+-- the call, passed the record's value w and its numbers in the memory σ, ends in the program γ: it returns v and leaves the memory σ'
+abbrev pub Gives : Env → Val → Call → Memory → Val → Memory → Type 0
+Gives γ w c σ v σ' = ends (γ (name_of c)) (w ∷ map (vint w64) (arguments_of c)) σ v σ'
 
 -- a field of a value of the machine
 abbrev field_at : ℕ → Vals → Val
@@ -74,11 +80,12 @@ record_of (vbool b) = vunit
 record_of (vint w n) = vunit
 record_of (vfloat f x) = vunit
 record_of (vptr b o) = vunit
+record_of (vcode f) = vunit
 record_of (vstruct vs) = field_at 4 vs
 
--- From the memory σ and the record's value w the calls are run one after another, each on the record that the one before returned and in the
--- memory that it left, and they return vs.
-pub data Execution : Memory → Val → List Call → List Val → Type 0 where
-  none : {σ : Memory} {w : Val} → Execution σ w [] []
+-- From the memory σ and the record's value w the calls are run one after another in the program γ, each on the record that the one before returned
+-- and in the memory that it left, and they return vs.
+pub data Execution (γ : Env) : Memory → Val → List Call → List Val → Type 0 where
+  none : {σ : Memory} {w : Val} → Execution γ σ w [] []
   returned : {σ σ' : Memory} {w v : Val} {c : Call} {calls : List Call} {vs : List Val}
-      → Gives w c σ v σ' → Execution σ' (record_of v) calls vs → Execution σ w (c ∷ calls) (v ∷ vs)
+      → Gives γ w c σ v σ' → Execution γ σ' (record_of v) calls vs → Execution γ σ w (c ∷ calls) (v ∷ vs)

@@ -23,3 +23,4 @@ mod Taking
 mod Judging
 mod AnswerBounds
 mod CheckExamples
+pub mod Links

@@ -8,3 +8,4 @@ pub mod SetsWith
 pub mod Neighbours
 pub mod Lowest
 pub mod Above
+pub mod Links

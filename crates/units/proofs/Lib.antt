@@ -3,3 +3,4 @@ pub mod Amounts
 pub mod Numbers
 pub mod Granting
 pub mod Held
+pub mod Links

@@ -1,0 +1,95 @@
+-- A program that has every function of the crates up to this one, and so each of them with all that it names.
+-- Assumes nothing.
+use mathlib.Core.Bool.{true}
+use mathlib.Core.List.{[], ◌∷◌}
+use mathlib.Core.Path.{refl}
+use lib.Chars.{codes}
+use mir.Syntax.{Symbol}
+use prog.Linked.{Entry, World, in_world}
+use prog.LinkedThreads.{HasT, has-wired_t, tie_t, tie_t-follows, tie_t-threads}
+use prog.Routine.{Env}
+use prog.Wired.{Code, Wired}
+use Rattle.stations.proofs.Links as stations
+use Rattle.quorum.proofs.Links as quorum
+use Rattle.units.proofs.Links as units
+use Rattle.records.proofs.Links as records
+use Rattle.arbiters.proofs.Links as arbiters
+use Rattle.calls.proofs.Links as calls
+use Rattle.calls.proofs.down.Symbol as down
+use Rattle.calls.proofs.release.Symbol as release
+use Rattle.calls.proofs.request.Symbol as request
+use Rattle.calls.proofs.up.Symbol as up
+use Rattle.calls.proofs.withdraw.Symbol as withdraw
+use Rattle.machine.proofs.TheLink as machine
+use Rattle.machine.proofs.opening.blank.Symbol as blank
+
+abbrev world : World
+world =
+    (codes "stations", stations.table) ∷ (codes "quorum", quorum.table) ∷ (codes "units", units.table) ∷ (codes "records", records.table)
+    ∷ (codes "arbiters", arbiters.table) ∷ (codes "calls", calls.table) ∷ (codes "machine", machine.table) ∷ []
+
+abbrev look : Symbol → Entry
+look = in_world world
+
+-- what the functions of a crate name of other crates
+below_quorum : quorum.Below world
+below_quorum =
+    (stations.common-linked world refl tt, (stations.contains-linked world refl tt, (stations.count-linked world refl tt,
+    (stations.everyone-linked world refl tt, (stations.has-linked world refl tt, (stations.only-linked world refl tt, tt))))))
+
+below_units : units.Below world
+below_units = (quorum.up_to-linked world refl below_quorum, tt)
+
+below_records : records.Below world
+below_records =
+    (quorum.broken_limit-linked world refl below_quorum, (units.asked_with-linked world refl below_units,
+    (units.grant_in-linked world refl below_units, (units.request_in-linked world refl below_units, tt))))
+
+below_arbiters : arbiters.Below world
+below_arbiters =
+    (quorum.up_to-linked world refl below_quorum, (records.arbiter_in_range-linked world refl below_records,
+    (stations.only-linked world refl tt, (units.asked_with-linked world refl below_units,
+    (units.fits-linked world refl below_units, (units.no_units-linked world refl below_units,
+    (units.request_in-linked world refl below_units, (units.stock_of-linked world refl below_units,
+    (units.units_of-linked world refl below_units, tt)))))))))
+
+below_calls : calls.Below world
+below_calls =
+    (arbiters.deliver-linked world refl below_arbiters, (records.in_range-linked world refl below_records,
+    (stations.common-linked world refl tt, (stations.everyone-linked world refl tt, (stations.has-linked world refl tt,
+    (stations.lowest_from-linked world refl tt, (units.no_units-linked world refl below_units,
+    (units.request_in-linked world refl below_units, (units.units_of-linked world refl below_units, tt)))))))))
+
+below_machine : machine.Below world
+below_machine =
+    (calls.down-linked world refl below_calls, (calls.release-linked world refl below_calls,
+    (calls.request-linked world refl below_calls, (calls.up-linked world refl below_calls,
+    (calls.withdraw-linked world refl below_calls, (quorum.check-linked world refl below_quorum,
+    (units.asked_with-linked world refl below_units, (units.no_units-linked world refl below_units,
+    (units.number_of-linked world refl below_units, (units.stock_of-linked world refl below_units, tt))))))))))
+
+-- what each name means in the program
+unfoldable pub program : Env
+program = tie_t look
+
+wired : (c : Code) → HasT look true c → Wired program c
+unfolding program
+wired = has-wired_t look program (tie_t-follows look) (tie_t-threads look)
+
+pub request-wired : Wired program request.code
+request-wired = wired request.code (calls.request-linked world refl below_calls)
+
+pub up-wired : Wired program up.code
+up-wired = wired up.code (calls.up-linked world refl below_calls)
+
+pub down-wired : Wired program down.code
+down-wired = wired down.code (calls.down-linked world refl below_calls)
+
+pub release-wired : Wired program release.code
+release-wired = wired release.code (calls.release-linked world refl below_calls)
+
+pub withdraw-wired : Wired program withdraw.code
+withdraw-wired = wired withdraw.code (calls.withdraw-linked world refl below_calls)
+
+pub blank-wired : Wired program blank.code
+blank-wired = wired blank.code (machine.linked-machine::opening::blank world refl below_machine)
