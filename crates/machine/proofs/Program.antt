@@ -31,42 +31,43 @@ world =
 abbrev look : Symbol → Entry
 look = in_world world
 
+-- a pair, to make one of many parts without brackets
+abbrev ◌&◌ : {A B : Type 0} → A → B → A × B
+a & b = (a, b)
+
+infixr 20 ◌&◌
 -- what the functions of a crate name of other crates
 below_quorum : quorum.Below world
 below_quorum =
-    (stations.common-linked world refl tt, (stations.contains-linked world refl tt, (stations.count-linked world refl tt,
-    (stations.everyone-linked world refl tt, (stations.has-linked world refl tt, (stations.only-linked world refl tt, tt))))))
+    stations.common-linked world refl tt & stations.contains-linked world refl tt & stations.count-linked world refl tt
+    & stations.everyone-linked world refl tt & stations.has-linked world refl tt & stations.only-linked world refl tt & tt
 
 below_units : units.Below world
-below_units = (quorum.up_to-linked world refl below_quorum, tt)
+below_units = quorum.up_to-linked world refl below_quorum & tt
 
 below_records : records.Below world
 below_records =
-    (quorum.broken_limit-linked world refl below_quorum, (units.asked_with-linked world refl below_units,
-    (units.grant_in-linked world refl below_units, (units.request_in-linked world refl below_units, tt))))
+    quorum.broken_limit-linked world refl below_quorum & units.asked_with-linked world refl below_units
+    & units.grant_in-linked world refl below_units & units.request_in-linked world refl below_units & tt
 
 below_arbiters : arbiters.Below world
 below_arbiters =
-    (quorum.up_to-linked world refl below_quorum, (records.arbiter_in_range-linked world refl below_records,
-    (stations.only-linked world refl tt, (units.asked_with-linked world refl below_units,
-    (units.fits-linked world refl below_units, (units.no_units-linked world refl below_units,
-    (units.request_in-linked world refl below_units, (units.stock_of-linked world refl below_units,
-    (units.units_of-linked world refl below_units, tt)))))))))
+    quorum.up_to-linked world refl below_quorum & records.arbiter_in_range-linked world refl below_records & stations.only-linked world refl tt
+    & units.asked_with-linked world refl below_units & units.fits-linked world refl below_units & units.no_units-linked world refl below_units
+    & units.request_in-linked world refl below_units & units.stock_of-linked world refl below_units & units.units_of-linked world refl below_units & tt
 
 below_calls : calls.Below world
 below_calls =
-    (arbiters.deliver-linked world refl below_arbiters, (records.in_range-linked world refl below_records,
-    (stations.common-linked world refl tt, (stations.everyone-linked world refl tt, (stations.has-linked world refl tt,
-    (stations.lowest_from-linked world refl tt, (units.no_units-linked world refl below_units,
-    (units.request_in-linked world refl below_units, (units.units_of-linked world refl below_units, tt)))))))))
+    arbiters.deliver-linked world refl below_arbiters & records.in_range-linked world refl below_records & stations.common-linked world refl tt
+    & stations.everyone-linked world refl tt & stations.has-linked world refl tt & stations.lowest_from-linked world refl tt
+    & units.no_units-linked world refl below_units & units.request_in-linked world refl below_units & units.units_of-linked world refl below_units & tt
 
 below_machine : machine.Below world
 below_machine =
-    (calls.down-linked world refl below_calls, (calls.release-linked world refl below_calls,
-    (calls.request-linked world refl below_calls, (calls.up-linked world refl below_calls,
-    (calls.withdraw-linked world refl below_calls, (quorum.check-linked world refl below_quorum,
-    (units.asked_with-linked world refl below_units, (units.no_units-linked world refl below_units,
-    (units.number_of-linked world refl below_units, (units.stock_of-linked world refl below_units, tt))))))))))
+    calls.down-linked world refl below_calls & calls.release-linked world refl below_calls & calls.request-linked world refl below_calls
+    & calls.up-linked world refl below_calls & calls.withdraw-linked world refl below_calls & quorum.check-linked world refl below_quorum
+    & units.asked_with-linked world refl below_units & units.no_units-linked world refl below_units & units.number_of-linked world refl below_units
+    & units.stock_of-linked world refl below_units & tt
 
 -- what each name means in the program
 unfoldable pub program : Env
