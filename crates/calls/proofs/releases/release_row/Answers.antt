@@ -1,9 +1,9 @@
 -- `calls::releases::release_row` meets its contract. The stations before the one in hand have their RELEASE, and no lane passed its limit.
 -- Assumes nothing.
-use mathlib.Core.Bool.{false, true≢false}
+use mathlib.Core.Bool.{true≢false}
 use mathlib.Core.List.{List}
 use mathlib.Core.Path.{◌≡◌, refl, sym, ap, ◌∙◌}
-use Prim.Native.Nat.{◌<◌, ℕ, ◌≤◌, ◌-◌}
+use Prim.Native.Nat.{◌<◌, ℕ}
 use native.Mathlib.Omega.{arith}
 use borrow.Author.Rules.{rules}
 use Rattle.lists.specs.At.{at}

@@ -1,8 +1,8 @@
 -- `calls::releases::release_row` meets its contract. The stations before the one in hand have their RELEASE, and no lane passed its limit.
 -- Assumes nothing.
 use mathlib.Core.Bool.{false}
-use mathlib.Core.Path.{◌≡◌, ◌∙◌}
-use Prim.Native.Nat.{◌<◌, ◌≤◌, ◌-◌}
+use mathlib.Core.Path.{◌≡◌}
+use Prim.Native.Nat.{◌≤◌, ◌-◌}
 use Rattle.lists.specs.Search.{some_below}
 use Rattle.plain.specs.Release.{release_passes}
 use Rattle.records.specs.View.{row_of}

@@ -1,7 +1,7 @@
 -- `calls::sending::send` meets its contract. First GONE, if it is sent; then the lanes are those in which the entries before the one in hand were granted; none
 -- Assumes nothing.
-use mathlib.Core.Path.{◌≡◌, ◌∙◌}
-use Prim.Native.Nat.{ℕ, ◌≤◌, ◌<◌, ◌-◌, ◌+◌}
+use mathlib.Core.Path.{◌≡◌}
+use Prim.Native.Nat.{ℕ, ◌≤◌, ◌<◌, ◌-◌}
 use lib.ListN.{length}
 use Rattle.plain.specs.Lanes.{down_places}
 use Rattle.records.specs.View.{lanes_of}

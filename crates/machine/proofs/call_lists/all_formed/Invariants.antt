@@ -1,8 +1,7 @@
 -- `machine::call_lists::all_formed` meets its contract. The calls before the one in hand are of the form.
 -- Assumes nothing.
-use mathlib.Core.Bool.{◌&&◌}
-use mathlib.Core.Path.{◌≡◌, ◌∙◌}
-use Prim.Native.Nat.{◌≤◌, ◌+◌, ◌-◌}
+use mathlib.Core.Path.{◌≡◌}
+use Prim.Native.Nat.{◌≤◌, ◌-◌}
 use lib.ListN.{drop}
 use Rattle.machine.specs.Performing.{well_formed}
 use Rattle.machine.proofs.call_lists.all_formed.Given as goal

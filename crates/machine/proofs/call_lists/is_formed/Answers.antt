@@ -1,6 +1,6 @@
 -- `machine::call_lists::is_formed` meets its contract. One case for each test.
 -- Assumes nothing.
-use mathlib.Core.Bool.{true, false, ◌||◌}
+use mathlib.Core.Bool.{true, ◌||◌}
 use mathlib.Core.Logic.{◌⊎◌, inl, inr}
 use mathlib.Core.Path.{◌≡◌}
 use Prim.Native.Nat.{ℕ}

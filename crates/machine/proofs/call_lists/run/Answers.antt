@@ -1,6 +1,5 @@
 -- `machine::call_lists::run` meets its contract. What has been answered, and the calls that are left.
 -- Assumes nothing.
-use Prim.Native.Nat.{◌-◌}
 use native.Mathlib.Omega.{arith}
 use Rattle.records.specs.View.{view}
 use Rattle.calls.specs.Answers.{answer_of}

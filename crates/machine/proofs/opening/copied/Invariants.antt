@@ -1,7 +1,6 @@
 -- `machine::opening::copied` meets its contract. The places before the one in hand have the quorums of their numbers.
 -- Assumes nothing.
-use mathlib.Core.List.{◌∷◌, [], ◌++◌}
-use mathlib.Core.Path.{◌≡◌, ◌∙◌}
+use mathlib.Core.Path.{◌≡◌}
 use Prim.Native.Nat.{◌≤◌, ◌-◌}
 use lib.ListN.{length}
 use Rattle.lists.specs.Cut.{cut}
