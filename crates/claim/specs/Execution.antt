@@ -3,7 +3,7 @@ use Rattle.std.specs.Prelude.{List, [], ◌∷◌, map, ℕ, zero, suc, ◌<◌,
 use Rattle.std.specs.Int.{w64}
 use mir.Val.{Val, Vals, vunit, vbool, vint, vfloat, vptr, vcode, vstruct, vnil, vcons}
 use prog.Memory.{Memory}
-use prog.Routine.{Callee, Env, ends}
+use prog.Routine.{Callee, Env, Routine, ends}
 use prog.Wired.{Wired}
 use denote.Laws.{Is}
 use Rattle.units.specs.Units.{number_of}
@@ -41,6 +41,10 @@ name_of (Call.Down s j) = down.name
 name_of (Call.Release s) = release.name
 name_of (Call.Withdraw s) = withdraw.name
 
+-- and what it is as the machine runs it in the program γ
+abbrev pub routine_of : Env → Call → Routine
+routine_of γ c = γ (name_of c)
+
 -- γ is what each name means in a program, and the program has the five calls: each of the five functions, and each that they name, does in it what
 -- its code does, and no more.
 abbrev pub HasCalls : Env → Type 0
@@ -65,7 +69,7 @@ AllFit (c ∷ calls) = Fit (arguments_of c) × AllFit calls
 
 -- the call, passed the record's value w and its numbers in the memory σ, ends in the program γ: it returns v and leaves the memory σ'
 abbrev pub Gives : Env → Val → Call → Memory → Val → Memory → Type 0
-Gives γ w c σ v σ' = ends (γ (name_of c)) (w ∷ map (vint w64) (arguments_of c)) σ v σ'
+Gives γ w c σ v σ' = ends (routine_of γ c) (w ∷ map (vint w64) (arguments_of c)) σ v σ'
 
 -- a field of a value of the machine
 abbrev field_at : ℕ → Vals → Val
