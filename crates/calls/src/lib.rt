@@ -95,6 +95,7 @@ fn is_idle(p: Phase) -> bool
 }
 
 // Station s asks for so many units by quorum q: it collects, and REQUEST goes up to the quorum's lowest member.
+#[inline(never)]
 pub fn request(r: Record, s: usize, q: usize, h: usize) -> Answer
     ensures answer { answer_of result ≡ request_of (view r) s q (units_of_rule h) }
     ensures refused { 0 < result.refusal → result.«record» ≡ r }
@@ -122,6 +123,7 @@ pub fn request(r: Record, s: usize, q: usize, h: usize) -> Answer
 }
 
 // The oldest message of station s to arbiter j is delivered.
+#[inline(never)]
 pub fn up(r: Record, s: usize, j: usize) -> Answer
     ensures answer { answer_of result ≡ up_of (view r) s j }
     ensures refused { 0 < result.refusal → result.«record» ≡ r }
@@ -138,6 +140,7 @@ pub fn up(r: Record, s: usize, j: usize) -> Answer
 }
 
 // The oldest message of arbiter j to station s is delivered.
+#[inline(never)]
 pub fn down(r: Record, s: usize, j: usize) -> Answer
     ensures answer { answer_of result ≡ down_of (view r) s j }
     ensures refused { 0 < result.refusal → result.«record» ≡ r }
@@ -154,6 +157,7 @@ pub fn down(r: Record, s: usize, j: usize) -> Answer
 }
 
 // Station s gives its units back.
+#[inline(never)]
 pub fn release(r: Record, s: usize) -> Answer
     ensures answer { answer_of result ≡ release_of (view r) s }
     ensures refused { 0 < result.refusal → result.«record» ≡ r }
@@ -173,6 +177,7 @@ pub fn release(r: Record, s: usize) -> Answer
 }
 
 // Station s gives up what it asked for.
+#[inline(never)]
 pub fn withdraw(r: Record, s: usize) -> Answer
     ensures answer { answer_of result ≡ withdraw_of (view r) s }
     ensures refused { 0 < result.refusal → result.«record» ≡ r }

@@ -4,4 +4,5 @@ pub mod Demand3
 pub mod EndingCall
 pub mod Executing
 pub mod TraceExists
+pub mod InTheProgram
 pub mod RecordsRest
