@@ -25,9 +25,9 @@ extern "C" {
 #define PAFLUZENO_NO_MEMBER 16 /* what stands for a member where there is none */
 #define PAFLUZENO_PAGE_ROOM 196617 /* the bytes of a buffer that is long enough for every page of the journal */
 
-/* So many bytes of stack are enough for every call. Measured (stack.c), not proved; with the older toolchain pafluzeno_page takes 64,896 bytes, every
- * other call 1,040 or less. The rest is for memcpy and memset, for the loader, which may run on the caller's stack when they are first used, and for
- * a compiler that lays the calls out otherwise. The program `journal`, which has its buffers on the stack, then takes 332 KiB. */
+/* So many bytes of stack are enough for every call. Measured (stack.c), not proved: pafluzeno_page takes 74,784 bytes, every other call 896 or less.
+ * The rest is for memcpy and memset, for the loader, which may run on the caller's stack when they are first used, and for a compiler that lays the
+ * calls out otherwise. The program `journal`, which has its buffers on the stack, takes 340 KiB. */
 #define PAFLUZENO_STACK_BYTES 81920
 
 /* The refusals, by name and number. The calls below give 1 to 8, 10 and 14 to 19; the others, 9, 11 to 13 and 20, are the machine's, which a
