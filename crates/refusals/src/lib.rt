@@ -77,3 +77,46 @@ pub fn number_in<T: Copy>(outcome: Result<T, Refusal>) -> u8
         Err(refusal) => refusal.number(),
     }
 }
+
+// GOING: the numbers as constants, until no crate uses them.
+pub const NO_REFUSAL: u8 = 0;
+
+pub const BAD_STATIONS: u8 = 1;
+
+pub const BAD_STOCK: u8 = 2;
+
+pub const BAD_LENGTH: u8 = 3;
+
+pub const BAD_QUORUM: u8 = 4;
+
+pub const SHORT_SCRATCH: u8 = 5;
+
+pub const NO_COMMON_MEMBER: u8 = 6;
+
+pub const NESTED: u8 = 7;
+
+pub const NO_SUCH_STATION: u8 = 8;
+
+pub const NO_SUCH_QUORUM: u8 = 9;
+
+pub const BAD_UNITS: u8 = 10;
+
+pub const NOT_IDLE: u8 = 11;
+
+pub const NOT_HOLDING: u8 = 12;
+
+pub const EMPTY_LANE: u8 = 13;
+
+pub const NO_PLACE: u8 = 14;
+
+pub const BAD_FORM: u8 = 15;
+
+pub const SHORT_BUFFER: u8 = 16;
+
+pub const NO_CUBE: u8 = 17;
+
+pub const TOO_MANY_QUORUMS: u8 = 18;
+
+pub const OUT_OF_RANGE: u8 = 19;
+
+pub const NOT_COLLECTING: u8 = 20;
