@@ -4,7 +4,7 @@
 ghost use Rattle.std.specs.Prelude.{◌≡◌, ◌<◌, length};
 ghost use Rattle.arbiters.specs.Lent.{lent_of};
 ghost use Rattle.outages.specs.Answer.{laid, answer as outages_of};
-ghost use Rattle.quorum.specs.Answer.{said as checked_says, answer};
+ghost use Rattle.quorum.specs.Answer.{answer};
 ghost use Rattle.quorum.specs.Limits.{most_stations};
 ghost use Rattle.quorum.specs.Scratch.{cleaned};
 ghost use Rattle.records.specs.View.{arbiter_of};
@@ -15,18 +15,19 @@ ghost use Rattle.tables.specs.Singleton.{singleton_table, singleton_refusal};
 ghost use Rattle.tables.specs.Uniform.{uniform_table, uniform_refusal};
 ghost use Rattle.units.specs.Units.{stock_of};
 ghost use Rattle.pafluzeno.specs.Arriving.{arriving};
+ghost use Rattle.pafluzeno.specs.Checks.{checked_says, next_says};
 
+mod checks;
 mod journal;
 
 use arbiters::{Incoming, Reply, Settled, Upward};
+pub use checks::{Checked, NextMember};
 pub use journal::{
     Part, pafluzeno_after_record, pafluzeno_page, pafluzeno_read_line, pafluzeno_read_record,
     pafluzeno_tally, pafluzeno_write_record,
 };
 use outages::Counted;
-use quorum::Checked;
 use records::Arbiter;
-use stations::NextMember;
 use tables::Made;
 
 // The messages by number, and how many they are.
@@ -59,7 +60,7 @@ pub extern "C" fn pafluzeno_check(
     ensures answered { checked_says result ≡ answer n k quorums.now (length scratch.old) }
     ensures cleaned { scratch.new ≡ cleaned scratch.old }
 {
-    quorum::check(n, k, quorums, scratch)
+    checks::checked(quorum::check(n, k, quorums, scratch))
 }
 
 // One quorum of one of n stations.
@@ -106,9 +107,9 @@ pub extern "C" fn pafluzeno_outages(
 // The next member of a quorum from a station on, 16 if there is none, and how many members lie above it.
 #[unsafe(no_mangle)]
 pub extern "C" fn pafluzeno_next_member(quorum: u16, from: usize) -> NextMember
-    ensures { result ≡ next_from quorum from }
+    ensures { next_says result ≡ next_from quorum from }
 {
-    stations::lowest_from(quorum, from)
+    checks::next_member(stations::lowest_from(quorum, from))
 }
 
 // The message in the machine's own form.

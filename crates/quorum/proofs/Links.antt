@@ -6,7 +6,7 @@ use prog.Linked.{Tree, World, Holds, in_world}
 use prog.LinkedThreads.{HasT}
 use Rattle.quorum.proofs.TheLink as link
 use Rattle.quorum.proofs.check.Symbol as check
-use Rattle.quorum.proofs.limits.broken_limit.Symbol as broken_limit
+use Rattle.quorum.proofs.limits.kept.Symbol as kept
 use Rattle.quorum.proofs.limits.up_to.Symbol as up_to
 
 abbrev pub table : Tree
@@ -20,8 +20,8 @@ module _ (W : World) (here : Holds W "quorum" table) (below : Below W) where
   pub check-linked : HasT (in_world W) true check.code
   check-linked = link.linked-quorum::check W here below
 
-  pub broken_limit-linked : HasT (in_world W) true broken_limit.code
-  broken_limit-linked = link.linked-quorum::limits::broken_limit W here below
+  pub kept-linked : HasT (in_world W) true kept.code
+  kept-linked = link.linked-quorum::limits::kept W here below
 
   pub up_to-linked : HasT (in_world W) true up_to.code
   up_to-linked = link.linked-quorum::limits::up_to W here below

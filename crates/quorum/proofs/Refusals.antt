@@ -6,6 +6,7 @@ use mathlib.Core.Logic.{⊎_elim}
 use mathlib.Core.Path.{◌≡◌, sym, ap, ◌∙◌}
 use Prim.Native.Nat.{ℕ, ◌≤◌, ◌<◌}
 use lib.Dec.{eqb}
+use Rattle.std.specs.Prelude.{Result}
 use borrow.Author.Tests.{eqb-true, lt-ltb, le-ltb}
 use Rattle.lists.specs.Broken.{first_broken}
 use Rattle.lists.proofs.Broken.{broken-at, first_earlier, first_later}
@@ -16,7 +17,8 @@ use Rattle.quorum.specs.Nested.{nested}
 use Rattle.quorum.specs.Refusal.{later_tests, refusal}
 use Rattle.quorum.specs.Scratch.{scratch_bytes}
 use Rattle.quorum.specs.Width.{lacks_common}
-use Rattle.quorum.specs.declared.Checked.{Checked}
+use Rattle.quorum.specs.declared.Accepted.{Accepted}
+use Rattle.quorum.specs.declared.Rejected.{Rejected}
 use Rattle.quorum.proofs.LimitLaws.{tests_kept}
 
 module _ (n k : ℕ) (table : List ℕ) (room : ℕ) where
@@ -55,6 +57,6 @@ answer-refusal n table r =
     (known (eqb r 0))
 
 -- and so does the code's, where it says that answer
-pub said-refusal : (n k : ℕ) (table : List ℕ) (room : ℕ) (checked : Checked) → said checked ≡ answer n k table room → checked.refusal ≡ refusal n k table room
-unfolding said answer
+pub said-refusal : (n k : ℕ) (table : List ℕ) (room : ℕ) (checked : Result Accepted Rejected) → said checked ≡ answer n k table room → (said checked).refusal ≡ refusal n k table room
+unfolding answer
 said-refusal n k table room checked e = ap (λ (a : Answer). a.refusal) e ∙ answer-refusal n table (refusal n k table room)

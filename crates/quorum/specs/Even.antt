@@ -18,6 +18,10 @@ equal_shares n table = every_below (λ i. eqb (belongs table i) (belongs table 0
 abbrev pub equal_sizes : List ℕ → Bool
 equal_sizes table = all (λ q. eqb (size q) (size (quorum table 0))) table
 
+-- even in both senses
+abbrev pub is_even : ℕ → List ℕ → Bool
+is_even n table = equal_shares n table && equal_sizes table
+
 -- "even is now 1 exactly when all stations belong to equally many quorums and all quorums have equal size"
 unfoldable pub even : ℕ → List ℕ → ℕ
-even n table = cond (equal_shares n table && equal_sizes table) 1 0
+even n table = cond (is_even n table) 1 0

@@ -1,6 +1,6 @@
 // Even tables.
 ghost use Rattle.std.specs.Prelude.{◌≡◌};
-ghost use Rattle.quorum.specs.Even.{belongs, equal_shares as equal_shares_rule, equal_sizes as equal_sizes_rule, even};
+ghost use Rattle.quorum.specs.Even.{belongs, equal_shares as equal_shares_rule, equal_sizes as equal_sizes_rule, is_even};
 
 // The number of quorums that station i belongs to.
 fn quorums_of(quorums: &[u16], i: usize) -> usize
@@ -46,15 +46,9 @@ fn equal_sizes(quorums: &[u16]) -> bool
     true
 }
 
-// 1 when a table is even in both senses, else 0. Sizes come first: they take one look at each quorum, and shares one for each station.
-pub(crate) fn evenness(n: usize, quorums: &[u16]) -> u8
-    ensures { result ≡ even n quorums.now }
+// Whether a table is even in both senses. Sizes come first: they take one look at each quorum, and shares one for each station.
+pub(crate) fn is_even(n: usize, quorums: &[u16]) -> bool
+    ensures { result ≡ is_even n quorums.now }
 {
-    if !equal_sizes(quorums) {
-        return 0;
-    }
-    if !equal_shares(n, quorums) {
-        return 0;
-    }
-    1
+    equal_sizes(quorums) && equal_shares(n, quorums)
 }

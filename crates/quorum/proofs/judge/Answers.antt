@@ -3,8 +3,7 @@
 use mathlib.Core.Path.{sym, ◌∙◌}
 use native.Mathlib.Omega.{arith}
 use lib.ListN.{length}
-use Rattle.quorum.specs.Answer.{said}
-use Rattle.quorum.proofs.Judging.{width-found, byte_finite, six, seven_or_none}
+use Rattle.quorum.proofs.Judging.{byte_finite, six, seven, accepted}
 use Rattle.quorum.proofs.LimitLaws.{limits_kept}
 use Rattle.quorum.proofs.judge.Goals as goal
 
@@ -31,25 +30,22 @@ first_family-family-requires c =
           c.width_of-width.result c.width_of-width.ensures (sym c.lacks.ensures ∙ c.if-lacks.true);
     }
 
-pub returns-then-lacks : goal.returns-then-lacks
-returns-then-lacks c =
-    let fill = c.fill in record {
-      answered = six c.args.n c.args.k c.args.quorums.now (length c.args.scratch.now) c.requires.0 c.requires.1 fill.new.scratch fill.ensures.needs
-          c.width_of-width.result c.width_of-width.ensures (sym c.lacks.ensures ∙ c.if-lacks.true)
-          c.first_family-family.result c.first_family-family.ensures c.evenness-even.result c.evenness-even.ensures;
-      beyond = fill.ensures.beyond;
-    }
-
-pub answer_nested_or_not-requires : goal.answer_nested_or_not-requires
-answer_nested_or_not-requires c =
+pub returns-then-lacks-clause-answered : goal.returns-then-lacks-clause-answered
+returns-then-lacks-clause-answered c =
     let fill = c.fill in
-    width-found c.args.n c.args.k c.args.quorums.now (length c.args.scratch.now) c.requires.0 c.requires.1 fill.new.scratch fill.ensures.needs
-    c.width_of-width.result c.width_of-width.ensures
+    six c.args.n c.args.k c.args.quorums.now (length c.args.scratch.now) c.requires.0 c.requires.1 fill.new.scratch fill.ensures.needs
+    c.width_of-width.result c.width_of-width.ensures (sym c.lacks.ensures ∙ c.if-lacks.true)
+    c.first_family-family.result c.first_family-family.ensures c.is_even-even.result c.is_even-even.ensures
 
-pub returns : goal.returns
-returns c =
-    let fill = c.fill in record {
-      answered = seven_or_none c.args.n c.args.k c.args.quorums.now (length c.args.scratch.now) c.requires.0 c.requires.1 fill.new.scratch fill.ensures.needs
-          c.width_of-width.result c.width_of-width.ensures (sym c.lacks.ensures ∙ c.if-lacks.false) (said c.answer_nested_or_not.result) c.answer_nested_or_not.ensures;
-      beyond = fill.ensures.beyond;
-    }
+pub returns-then-is_nested-clause-answered : goal.returns-then-is_nested-clause-answered
+returns-then-is_nested-clause-answered c =
+    let fill = c.fill in
+    seven c.args.n c.args.k c.args.quorums.now (length c.args.scratch.now) c.requires.0 c.requires.1 fill.new.scratch fill.ensures.needs
+    c.width_of-width.result c.width_of-width.ensures (sym c.lacks.ensures ∙ c.if-lacks.false) (sym c.is_nested.ensures ∙ c.if-is_nested.true)
+
+pub returns-clause-answered : goal.returns-clause-answered
+returns-clause-answered c =
+    let fill = c.fill in
+    accepted c.args.n c.args.k c.args.quorums.now (length c.args.scratch.now) c.requires.0 c.requires.1 fill.new.scratch fill.ensures.needs
+    c.width_of-width.result c.width_of-width.ensures (sym c.lacks.ensures ∙ c.if-lacks.false) (sym c.is_nested.ensures ∙ c.if-is_nested.false)
+    c.is_even.result c.is_even.ensures
