@@ -5,6 +5,7 @@ ghost use Rattle.stations.specs.Sets.{said as next_said};
 ghost use Rattle.pafluzeno.specs.Checks.{checked_says, next_says};
 
 use quorum::{Accepted, MOST_STATIONS, Rejected};
+use refusals::Refusal;
 use stations::PLACES;
 
 // What the check answers. The family is the first `size` places of its array.
@@ -26,58 +27,62 @@ pub struct NextMember {
     pub above: usize,
 }
 
-// The check's answer in numbers.
-pub(crate) fn checked(answer: Result<Accepted, Rejected>) -> Checked
-    ensures { checked_says result ≡ said answer }
-{
-    match answer {
-        Ok(accepted) => Checked {
-            refusal: 0,
-            width: accepted.width,
-            even: accepted.even as u8,
-            size: 0,
-            family: [0u8; MOST_STATIONS],
-        },
-        Err(Rejected::Refused(refusal)) => Checked {
-            refusal: refusal.number(),
-            width: 0,
-            even: 0,
-            size: 0,
-            family: [0u8; MOST_STATIONS],
-        },
-        Err(Rejected::NoCommonMember {
-            width,
-            even,
-            family,
-        }) => Checked {
-            refusal: refusals::Refusal::NoCommonMember.number(),
-            width,
-            even: even as u8,
-            size: width,
-            family,
-        },
-        Err(Rejected::Nested { width }) => Checked {
-            refusal: refusals::Refusal::Nested.number(),
-            width,
-            even: 0,
-            size: 0,
-            family: [0u8; MOST_STATIONS],
-        },
+// On an accepted table, but for its width and whether it is even.
+const ACCEPTED: Checked = Checked {
+    refusal: 0,
+    width: 0,
+    even: 0,
+    size: 0,
+    family: [0u8; MOST_STATIONS],
+};
+
+impl From<Result<Accepted, Rejected>> for Checked {
+    ghost from_gives = { λ answer checked. checked_says checked ≡ said answer };
+
+    fn from(answer: Result<Accepted, Rejected>) -> Checked {
+        match answer {
+            Ok(Accepted { width, even }) => Checked {
+                width,
+                even: even as u8,
+                ..ACCEPTED
+            },
+            Err(Rejected::Refused(refusal)) => Checked {
+                refusal: refusal.number(),
+                ..ACCEPTED
+            },
+            Err(Rejected::NoCommonMember {
+                width,
+                even,
+                family,
+            }) => Checked {
+                refusal: Refusal::NoCommonMember.number(),
+                width,
+                even: even as u8,
+                size: width,
+                family,
+            },
+            Err(Rejected::Nested { width }) => Checked {
+                refusal: Refusal::Nested.number(),
+                width,
+                ..ACCEPTED
+            },
+        }
     }
 }
 
-// The next member in numbers.
-pub(crate) fn next_member(next: Option<stations::NextMember>) -> NextMember
-    ensures { next_says result ≡ next_said next }
-{
-    match next {
-        Some(next) => NextMember {
-            member: next.member,
-            above: next.above,
-        },
-        None => NextMember {
-            member: PLACES,
-            above: 0,
-        },
+impl From<Option<stations::NextMember>> for NextMember {
+    ghost from_gives = { λ next numbers. next_says numbers ≡ next_said next };
+
+    fn from(next: Option<stations::NextMember>) -> NextMember {
+        match next {
+            Some(next) => NextMember {
+                member: next.member,
+                above: next.above,
+            },
+            None => NextMember {
+                member: PLACES,
+                above: 0,
+            },
+        }
     }
 }

@@ -60,7 +60,7 @@ pub extern "C" fn pafluzeno_check(
     ensures answered { checked_says result ≡ answer n k quorums.now (length scratch.old) }
     ensures cleaned { scratch.new ≡ cleaned scratch.old }
 {
-    checks::checked(quorum::check(n, k, quorums, scratch))
+    quorum::check(n, k, quorums, scratch).into()
 }
 
 // One quorum of one of n stations.
@@ -109,7 +109,7 @@ pub extern "C" fn pafluzeno_outages(
 pub extern "C" fn pafluzeno_next_member(quorum: u16, from: usize) -> NextMember
     ensures { next_says result ≡ next_from quorum from }
 {
-    checks::next_member(stations::lowest_from(quorum, from))
+    stations::lowest_from(quorum, from).into()
 }
 
 // The message in the machine's own form.

@@ -39,7 +39,7 @@ without-width n table r some small = rw (ne_eqb r 0 some, ne_eqb r 6 (λ e. omeg
 
 module _ (n k : ℕ) (table : List ℕ) (room : ℕ) where
   pub limit_broken : (r : Refusal) → number_of r ≡ broken_limit n k table → said (Err (Refused r)) ≡ answer n k table room
-  unfolding said answer
+  unfolding answer
   limit_broken r is =
       let some : number_of r ≡ 0 → ⊥ = some_number r in
       rw (refusal_limit n k table room (λ e. some (is ∙ e)), ← is) (without-width n table (number_of r) some (omega (arith, limit_most n k table)))
@@ -65,7 +65,7 @@ module _ (n k : ℕ) (table : List ℕ) (room : ℕ) where
 
       pub six : (leb 2 w && leb w (k + 1)) ≡ true → (family : List ℕ) → cut 0 (get_or bytes (everyone n) 0) family ≡ first_family n table → (e : Bool) → e ≡ is_even n table
           → said (Err (NoCommonMember w e family)) ≡ answer n k table room
-      unfolding said answer answer_to even lacks_common
+      unfolding answer answer_to even lacks_common
       six lacks family first e balanced =
           let byte : w ≡ get_or bytes (everyone n) 0 = size ∙ rw (ne_eqb (get_or bytes (everyone n) 0) no_need (byte_finite lacks)) in
           let six : (leb 2 (width n table) && leb (width n table) (k + 1)) ≡ true = rw width-found at lacks in
@@ -77,9 +77,9 @@ module _ (n k : ℕ) (table : List ℕ) (room : ℕ) where
         later = refusal_later n k table room kept enough (rw width-found at has)
 
         pub seven : nested table ≡ true → said (Err (Nested w)) ≡ answer n k table room
-        unfolding said answer answer_to
+        unfolding answer answer_to
         seven is = rw (later, is, ← width-found)
 
         pub accepted : nested table ≡ false → (e : Bool) → e ≡ is_even n table → said (Ok (record { width = w; even = e })) ≡ answer n k table room
-        unfolding said answer answer_to even
+        unfolding answer answer_to even
         accepted is e balanced = rw (balanced, later, is, ← width-found)

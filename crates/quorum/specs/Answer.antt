@@ -40,7 +40,7 @@ rejection_of (NoCommonMember width even family) = 6
 rejection_of (Nested width) = 7
 
 -- what the code's answer says: the family is the first `width` places of its array
-unfoldable pub said : Result Accepted Rejected → Answer
+abbrev pub said : Result Accepted Rejected → Answer
 said (Ok accepted) = record { refusal = 0; width = accepted.width; even = cond accepted.even 1 0; family = [] }
 said (Err (Refused refusal)) = refused (number_of refusal)
 said (Err (NoCommonMember width even family)) = record { refusal = 6; width = width; even = cond even 1 0; family = cut 0 width family }

@@ -71,6 +71,14 @@ impl Rejected {
     }
 }
 
+impl From<Rejected> for Refusal {
+    ghost from_gives = { λ rejected refusal. number_of refusal ≡ rejection_of rejected };
+
+    fn from(rejected: Rejected) -> Refusal {
+        rejected.refusal()
+    }
+}
+
 impl From<Refusal> for Rejected {
     ghost from_gives = { λ refusal rejected. rejected ≡ Refused refusal };
 

@@ -3,7 +3,6 @@
 use mathlib.Core.Path.{sym}
 use lib.ListN.{length}
 use Rattle.std.proofs.lemmas.Result.{err_from_is_err_and}
-use Rattle.quorum.specs.Answer.{said}
 use Rattle.quorum.specs.Scratch.{scratch_bytes}
 use Rattle.quorum.proofs.Cleaning.{zeroed-same}
 use Rattle.quorum.proofs.Judging.{limit_broken, scratch_short}
@@ -15,7 +14,6 @@ returns-in_err-kept-clause-answered c =
     rw (is, gave) (limit_broken c.args.n c.args.k c.args.quorums.now (length c.args.scratch.now) c.in_err-kept.field-0.0 c.in_err-kept.ensures)
 
 pub returns-then-scratch-lt-SCRATCH_BYTES-clause-answered : goal.returns-then-scratch-lt-SCRATCH_BYTES-clause-answered
-unfolding said
 returns-then-scratch-lt-SCRATCH_BYTES-clause-answered c = scratch_short c.args.n c.args.k c.args.quorums.now (length c.args.scratch.now) (sym c.in_ok-kept.ensures) c.if-scratch-lt-SCRATCH_BYTES.true
 
 pub returns-clause-cleaned : goal.returns-clause-cleaned
