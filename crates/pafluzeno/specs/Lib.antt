@@ -1,2 +1,4 @@
 pub mod Arriving
 pub mod Checks
+pub mod Made
+pub mod Counted

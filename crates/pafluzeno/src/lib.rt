@@ -3,22 +3,19 @@
 
 ghost use Rattle.std.specs.Prelude.{◌≡◌, ◌<◌, length};
 ghost use Rattle.arbiters.specs.Lent.{lent_of};
-ghost use Rattle.outages.specs.Answer.{laid, answer as outages_of};
 ghost use Rattle.quorum.specs.Answer.{answer};
 ghost use Rattle.quorum.specs.Limits.{most_stations};
 ghost use Rattle.quorum.specs.Scratch.{cleaned};
 ghost use Rattle.records.specs.View.{arbiter_of};
 ghost use Rattle.stations.specs.Sets.{next_from};
-ghost use Rattle.tables.specs.Cube.{cube_table, cube_refusal};
-ghost use Rattle.tables.specs.Made.{said as made_says, answer as making, written};
-ghost use Rattle.tables.specs.Singleton.{singleton_table, singleton_refusal};
-ghost use Rattle.tables.specs.Uniform.{uniform_table, uniform_refusal};
 ghost use Rattle.units.specs.Units.{stock_of};
 ghost use Rattle.pafluzeno.specs.Arriving.{arriving};
 ghost use Rattle.pafluzeno.specs.Checks.{checked_says, next_says};
 
 mod checks;
 mod journal;
+mod makers;
+mod survivals;
 
 use arbiters::{Incoming, Reply, Settled, Upward};
 pub use checks::{Checked, NextMember};
@@ -26,9 +23,9 @@ pub use journal::{
     Part, pafluzeno_after_record, pafluzeno_page, pafluzeno_read_line, pafluzeno_read_record,
     pafluzeno_tally, pafluzeno_write_record,
 };
-use outages::Counted;
+pub use makers::{Made, pafluzeno_cube, pafluzeno_singleton, pafluzeno_uniform};
 use records::Arbiter;
-use tables::Made;
+pub use survivals::{Counted, pafluzeno_outages};
 
 // The messages by number, and how many they are.
 pub const MESSAGE_RELEASE: u8 = 0;
@@ -61,47 +58,6 @@ pub extern "C" fn pafluzeno_check(
     ensures cleaned { scratch.new ≡ cleaned scratch.old }
 {
     quorum::check(n, k, quorums, scratch).into()
-}
-
-// One quorum of one of n stations.
-#[unsafe(no_mangle)]
-pub extern "C" fn pafluzeno_singleton(n: usize, station: usize, out: &mut [u16]) -> Made
-    ensures answered { made_says result ≡ making (singleton_refusal n station (length out.old)) (singleton_table station) }
-    ensures written { out.new ≡ written (singleton_refusal n station (length out.old)) (singleton_table station) out.old }
-{
-    tables::singleton(n, station, out)
-}
-
-// All sets of floor(k × n / (k + 1)) + 1 of n stations, by ascending number.
-#[unsafe(no_mangle)]
-pub extern "C" fn pafluzeno_uniform(n: usize, k: usize, out: &mut [u16]) -> Made
-    ensures answered { made_says result ≡ making (uniform_refusal n k (length out.old)) (uniform_table n k) }
-    ensures written { out.new ≡ written (uniform_refusal n k (length out.old)) (uniform_table n k) out.old }
-{
-    tables::uniform(n, k, out)
-}
-
-// For each of a^(k + 1) stations the quorum of those that agree with it in at least one coordinate.
-#[unsafe(no_mangle)]
-pub extern "C" fn pafluzeno_cube(a: usize, k: usize, out: &mut [u16]) -> Made
-    ensures answered { made_says result ≡ making (cube_refusal a k (length out.old)) (cube_table a k) }
-    ensures written { out.new ≡ written (cube_refusal a k (length out.old)) (cube_table a k) out.old }
-{
-    tables::cube(a, k, out)
-}
-
-// The sets of working stations that contain a whole quorum, counted by their size.
-#[unsafe(no_mangle)]
-pub extern "C" fn pafluzeno_outages(
-    n: usize,
-    k: usize,
-    quorums: &[u16],
-    scratch: &mut [u8],
-) -> Counted
-    ensures answered { result ≡ laid (outages_of n k quorums.now (length scratch.old)) }
-    ensures cleaned { scratch.new ≡ cleaned scratch.old }
-{
-    outages::count(n, k, quorums, scratch)
 }
 
 // The next member of a quorum from a station on, 16 if there is none, and how many members lie above it.

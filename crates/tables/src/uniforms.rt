@@ -1,13 +1,16 @@
 // The table of all sets of one size.
-ghost use Rattle.std.specs.Prelude.{◌≡◌, ◌+◌, ◌^◌, ◌≤◌, length};
+ghost use Rattle.std.specs.Prelude.{◌≡◌, ◌+◌, ◌^◌, ◌≤◌, length, IfOk};
+ghost use Rattle.refusals.specs.Numbers.{refusal_of};
 ghost use Rattle.stations.specs.Sets.{places};
 ghost use Rattle.stations.specs.Sizes.{choose};
 ghost use Rattle.quorum.specs.Limits.{most_stations, most_units};
 ghost use Rattle.tables.specs.Inner.Stored.{stored};
 ghost use Rattle.tables.specs.Uniform.{uniform_size, uniform_refusal};
 
+use refusals::Refusal;
+
 // The number of stations in each set.
-pub(crate) fn size_of(n: usize, k: usize) -> usize
+fn size_of(n: usize, k: usize) -> usize
     requires { (n ≤ most_stations) × (k ≤ most_units) }
     ensures { result ≡ uniform_size n k }
 {
@@ -20,26 +23,27 @@ fn sets_of(n: usize, size: usize) -> usize
     ensures { result ≡ choose n size }
 {
     let mut sets: usize = 1;
-    let mut i: usize = 0;
-    while i < size {
+    for i in 0..size {
         sets = sets * (n - i) / (i + 1);
-        i += 1;
     }
     sets
 }
 
-// The refusal of n stations and k units, in a buffer of so many entries, 0 if there is none.
-pub(crate) fn refusal(n: usize, k: usize, room: usize) -> u8
-    ensures { result ≡ uniform_refusal n k room }
+// The size of the sets of the uniform table of n stations and k units, which fits a buffer of so many entries.
+#[tactic(auto, unfolding(crate::specs::Made::no_room, crate::specs::Uniform::uniform_refusal), using(crate::proofs::UniformArbiter::uniform_length))]
+pub(crate) fn fitting(n: usize, k: usize, room: usize) -> Result<usize, Refusal>
+    ensures refused { refusal_of result ≡ uniform_refusal n k room }
+    ensures sized { IfOk result (λ size. size ≡ uniform_size n k) }
 {
     if !quorum::limits::up_to(quorum::MOST_STATIONS, n) {
-        return refusals::BAD_STATIONS;
+        return Err(Refusal::BadStations);
     }
     if !quorum::limits::up_to(quorum::MOST_UNITS, k) {
-        return refusals::BAD_STOCK;
+        return Err(Refusal::BadStock);
     }
-    let sets = sets_of(n, size_of(n, k));
-    crate::room::no_room(sets, room)
+    let size = size_of(n, k);
+    crate::room::fits(sets_of(n, size), room)?;
+    Ok(size)
 }
 
 // Writes the sets of `size` of the stations below n, each with the higher stations `above`, from the place `at` on.
