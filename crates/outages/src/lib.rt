@@ -26,8 +26,6 @@ pub fn count(
     ensures few { OnOk result (n ≤ most_stations) }
     ensures cleaned { scratch.new ≡ cleaned scratch.old }
 {
-    match quorum::check(n, k, quorums, scratch) {
-        Ok(_) => Ok(counting::count_sets(n, quorums)),
-        Err(rejected) => Err(rejected.refusal()),
-    }
+    quorum::check(n, k, quorums, scratch)?;
+    Ok(counting::count_sets(n, quorums))
 }
