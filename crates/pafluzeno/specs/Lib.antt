@@ -2,3 +2,4 @@ pub mod Arriving
 pub mod Checks
 pub mod Made
 pub mod Counted
+pub mod Writing

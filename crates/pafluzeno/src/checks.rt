@@ -50,11 +50,13 @@ impl From<Result<Accepted, Rejected>> for Checked {
                 refusal: refusal.number(),
                 ..ACCEPTED
             },
-            Err(Rejected::NoCommonMember {
-                width,
-                even,
-                family,
-            }) => Checked {
+            Err(
+                Rejected::NoCommonMember {
+                    width,
+                    even,
+                    family,
+                },
+            ) => Checked {
                 refusal: Refusal::NoCommonMember.number(),
                 width,
                 even: even as u8,

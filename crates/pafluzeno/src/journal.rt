@@ -1,16 +1,13 @@
-// The journal's calls: lines and records read and written, records added up, and the page of a text. A part of a lent text goes to C as its
-// place in that text and its length.
+// The journal's calls that read: lines and records, and records added up. A part of a lent text goes to C as its place in that text and its
+// length.
 ghost use Rattle.std.specs.Prelude.{◌≡◌, length};
 ghost use Rattle.journal_lines.specs.Forms.{journal_form};
 ghost use Rattle.journal_lines.specs.Lines.{line_value, line_place};
-ghost use Rattle.journal_reading.specs.JournalRecords.{numbers_of, read_of, record_in, after_record as after_record_rule};
-ghost use Rattle.journal_writing.specs.Page.{printing, printed_into};
-ghost use Rattle.journal_writing.specs.Writing.{writing, written_into};
+ghost use Rattle.journal_reading.specs.JournalRecords.{read_of, record_in, after_record as after_record_rule};
 ghost use Rattle.archive.specs.Tallies.{tally_of, tallying};
 
 use archive::Totals;
-use journal_reading::{JournalRecord, ReadRecord};
-use journal_writing::{Printed, Written};
+use journal_reading::ReadRecord;
 
 // A part of a lent text: where it begins, and its bytes.
 #[repr(C)]
@@ -53,28 +50,10 @@ pub extern "C" fn pafluzeno_after_record(text: &[u8]) -> Part
     Part { place, len }
 }
 
-// A record, written into the rest of a buffer from a given place.
-#[unsafe(no_mangle)]
-pub extern "C" fn pafluzeno_write_record(out: &mut [u8], at: usize, r: JournalRecord) -> Written
-    ensures answer { result ≡ writing journal_form (numbers_of r) (length out.old) at }
-    ensures lent { out.new ≡ written_into journal_form (numbers_of r) out.old at }
-{
-    journal_writing::write_record(out, at, r)
-}
-
 // A text that is records and nothing else, added up.
 #[unsafe(no_mangle)]
 pub extern "C" fn pafluzeno_tally(text: &[u8]) -> Totals
     ensures { tally_of result ≡ tallying text.now }
 {
     archive::tally(text)
-}
-
-// The page of a text, into the front of a buffer.
-#[unsafe(no_mangle)]
-pub extern "C" fn pafluzeno_page(text: &[u8], out: &mut [u8]) -> Printed
-    ensures answer { result ≡ printing text.now (length out.old) }
-    ensures lent { out.new ≡ printed_into text.now out.old }
-{
-    journal_writing::print_page(text, out)
 }

@@ -16,16 +16,17 @@ mod checks;
 mod journal;
 mod makers;
 mod survivals;
+mod writing;
 
 use arbiters::{Incoming, Reply, Settled, Upward};
 pub use checks::{Checked, NextMember};
 pub use journal::{
-    Part, pafluzeno_after_record, pafluzeno_page, pafluzeno_read_line, pafluzeno_read_record,
-    pafluzeno_tally, pafluzeno_write_record,
+    Part, pafluzeno_after_record, pafluzeno_read_line, pafluzeno_read_record, pafluzeno_tally,
 };
 pub use makers::{Made, pafluzeno_cube, pafluzeno_singleton, pafluzeno_uniform};
 use records::Arbiter;
 pub use survivals::{Counted, pafluzeno_outages};
+pub use writing::{Printed, Written, pafluzeno_page, pafluzeno_write_record};
 
 // The messages by number, and how many they are.
 pub const MESSAGE_RELEASE: u8 = 0;
