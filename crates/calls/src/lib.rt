@@ -100,7 +100,7 @@ pub fn request(r: Record, s: usize, q: usize, h: usize) -> Answer
     ensures answer { answer_of result ≡ request_of (view r) s q (units_of_rule h) }
     ensures refused { 0 < result.refusal → result.«record» ≡ r }
 {
-    if !records::in_range(r) {
+    if !records::in_range(&r) {
         return refuse(r, refusals::OUT_OF_RANGE);
     }
     if r.n as usize <= s {
@@ -128,7 +128,7 @@ pub fn up(r: Record, s: usize, j: usize) -> Answer
     ensures answer { answer_of result ≡ up_of (view r) s j }
     ensures refused { 0 < result.refusal → result.«record» ≡ r }
 {
-    if !records::in_range(r) {
+    if !records::in_range(&r) {
         return refuse(r, refusals::OUT_OF_RANGE);
     }
     let taken = taking::take_oldest(r.up, r.n as usize, s, j);
@@ -145,7 +145,7 @@ pub fn down(r: Record, s: usize, j: usize) -> Answer
     ensures answer { answer_of result ≡ down_of (view r) s j }
     ensures refused { 0 < result.refusal → result.«record» ≡ r }
 {
-    if !records::in_range(r) {
+    if !records::in_range(&r) {
         return refuse(r, refusals::OUT_OF_RANGE);
     }
     let taken = taking::take_oldest(r.down, r.n as usize, s, j);
@@ -162,7 +162,7 @@ pub fn release(r: Record, s: usize) -> Answer
     ensures answer { answer_of result ≡ release_of (view r) s }
     ensures refused { 0 < result.refusal → result.«record» ≡ r }
 {
-    if !records::in_range(r) {
+    if !records::in_range(&r) {
         return refuse(r, refusals::OUT_OF_RANGE);
     }
     if r.n as usize <= s {
@@ -182,7 +182,7 @@ pub fn withdraw(r: Record, s: usize) -> Answer
     ensures answer { answer_of result ≡ withdraw_of (view r) s }
     ensures refused { 0 < result.refusal → result.«record» ≡ r }
 {
-    if !records::in_range(r) {
+    if !records::in_range(&r) {
         return refuse(r, refusals::OUT_OF_RANGE);
     }
     if r.n as usize <= s {

@@ -1,89 +1,74 @@
 // Whether lanes are in range: up and down alike.
-ghost use Rattle.std.specs.Prelude.{◌&&◌, true, false, ◌≡◌, ◌≤◌};
-ghost use Rattle.plain.specs.Lanes.{up_places};
-ghost use Rattle.quorum.specs.Limits.{most_stations};
-ghost use Rattle.records.specs.Inner.Ranges.{goes, lane_places, lane_in as lane_in_rule, row_in, lanes_in};
-ghost use Rattle.records.specs.View.{lane_of, row_of, lanes_of};
+ghost use Rattle.std.specs.Prelude.{◌≡◌};
+ghost use Rattle.lists.specs.Search.{all};
+ghost use Rattle.records.specs.Inner.Ranges.{goes, lane_places, lane_in as lane_in_rule, row_in as row_in_rule};
+ghost use Rattle.records.specs.View.{message_of, lane_of, row_of};
 
-use crate::{DOWN_PLACES, Lane, Lanes, Row, Slot, UP_PLACES};
+use crate::bounds::Bounds;
+use crate::{DOWN_PLACES, Lane, Row, Slot, UP_PLACES};
 use plain::Message;
 use units::Units;
 
-// Whether the message of a place may stand in a lane of this direction.
-fn message_goes(slot: Slot, stock: Units, upward: bool) -> bool
-    ensures { result ≡ goes upward stock slot.message }
+// Where the messages of a lane go: up from a station, or down to one.
+#[derive(Clone, Copy, Debug, PartialEq, Eq)]
+pub(crate) enum Direction {
+    Up,
+    Down,
+}
+
+// Whether a message may stand in a lane of this direction.
+#[tactic(auto, unfolding(plain::specs::InRange::goes_up, plain::specs::InRange::goes_down))]
+fn goes(m: Message, stock: Units, direction: Direction) -> bool
+    ensures { result ≡ goes direction stock m }
 {
-    let m = slot.message;
-    match m {
-        Message::Request(h) => {
-            if upward {
-                return units::request_in(stock, h);
-            }
-            false
-        }
-        Message::Release => upward,
-        Message::Grant => !upward,
-        Message::Withdraw => upward,
-        Message::Gone => !upward,
+    match (direction, m) {
+        (Direction::Up, Message::Request(h)) => units::request_in(stock, h),
+        (Direction::Up, Message::Release | Message::Withdraw) => true,
+        (Direction::Down, Message::Grant | Message::Gone) => true,
+        _ => false,
     }
 }
 
 // The limit of a lane of this direction.
-fn places(upward: bool) -> usize
-    ensures { (result ≡ lane_places upward) × (result ≤ up_places) }
+fn places(direction: Direction) -> usize
+    ensures { result ≡ lane_places direction }
 {
-    if upward {
-        return UP_PLACES;
+    match direction {
+        Direction::Up => UP_PLACES,
+        Direction::Down => DOWN_PLACES,
     }
-    DOWN_PLACES
+}
+
+fn slots_in(slots: &[Slot], stock: Units, direction: Direction) -> bool
+    ensures { result ≡ all (λ s. goes direction stock (message_of s)) slots.now }
+{
+    slots
+        .iter()
+        .all(|slot| goes(slot.message, stock, direction))
 }
 
 // Whether a lane keeps its limit and has only such messages.
-fn lane_in(l: Lane, stock: Units, upward: bool) -> bool
-    ensures { result ≡ lane_in_rule upward stock (lane_of l) }
+fn lane_in(l: &Lane, stock: Units, direction: Direction) -> bool
+    ensures { result ≡ lane_in_rule direction stock (lane_of l.now) }
 {
     let len = l.len as usize;
-    if places(upward) < len {
-        return false;
-    }
-    let slots = l.slots;
-    let mut i: usize = 0;
-    while i < len && message_goes(slots[i], stock, upward) {
-        i += 1;
-    }
-    i == len
+    len <= places(direction) && slots_in(&l.slots[..len], stock, direction)
 }
 
-fn row_in(w: Row, n: usize, stock: Units, upward: bool) -> bool
-    requires { n ≤ most_stations }
-    ensures { result ≡ row_in upward n stock (row_of n w) }
+fn lanes_in(lanes: &[Lane], stock: Units, direction: Direction) -> bool
+    ensures { result ≡ all (λ l. lane_in_rule direction stock (lane_of l)) lanes.now }
 {
-    let lanes = w.lanes;
-    let mut j: usize = 0;
-    while j < n && lane_in(lanes[j], stock, upward) {
-        j += 1;
-    }
-    j == n
+    lanes.iter().all(|l| lane_in(l, stock, direction))
 }
 
-fn lanes_in(t: Lanes, n: usize, stock: Units, upward: bool) -> bool
-    requires { n ≤ most_stations }
-    ensures { result ≡ lanes_in upward n stock (lanes_of n t) }
+fn row_in(b: Bounds, w: &Row, direction: Direction) -> bool
+    ensures { result ≡ row_in_rule direction b.stations b.stock (row_of b.stations w.now) }
 {
-    let rows = t.rows;
-    let mut s: usize = 0;
-    while s < n && row_in(rows[s], n, stock, upward) {
-        s += 1;
-    }
-    s == n
+    lanes_in(&w.lanes[..b.stations], b.stock, direction)
 }
 
-pub(crate) fn both_in(up: Lanes, down: Lanes, n: usize, stock: Units) -> bool
-    requires { n ≤ most_stations }
-    ensures { result ≡ (lanes_in true n stock (lanes_of n up) && lanes_in false n stock (lanes_of n down)) }
+pub(crate) fn rows_in(b: Bounds, rows: &[Row], direction: Direction) -> bool
+    ensures { result ≡ all (λ w. row_in_rule direction b.stations b.stock (row_of b.stations w)) rows.now }
 {
-    if !lanes_in(up, n, stock, true) {
-        return false;
-    }
-    lanes_in(down, n, stock, false)
+    rows.iter().all(|w| row_in(b, w, direction))
 }

@@ -7,10 +7,13 @@ ghost use Rattle.plain.specs.InRange.{in_range, arbiter_in as arbiter_in_rule};
 ghost use Rattle.quorum.specs.Limits.{most_stations};
 ghost use Rattle.records.specs.View.{arbiter_of, view};
 
+use bounds::Bounds;
+use lane_range::Direction;
 use plain::{Entry, Message, Phase};
 use units::Units;
 
 mod arbiter_range;
+mod bounds;
 mod lane_range;
 mod limits;
 mod station_range;
@@ -76,33 +79,26 @@ pub struct Record {
 }
 
 // Whether an arbiter of at most twelve stations is in range.
-pub fn arbiter_in_range(a: Arbiter, n: usize, stock: Units) -> bool
-    ensures { result ≡ (leb n most_stations && arbiter_in_rule n stock (arbiter_of n a)) }
+pub fn arbiter_in_range(a: &Arbiter, n: usize, stock: Units) -> bool
+    ensures { result ≡ (leb n most_stations && arbiter_in_rule n stock (arbiter_of n a.now)) }
 {
-    if STATIONS < n {
-        return false;
-    }
-    arbiter_range::arbiter_in(a, n, stock)
+    n <= STATIONS && arbiter_range::arbiter_in(Bounds { stations: n, stock }, a)
 }
 
 // Whether the record is in range.
-pub fn in_range(r: Record) -> bool
-    ensures { result ≡ in_range (view r) }
+pub fn in_range(r: &Record) -> bool
+    ensures { result ≡ in_range (view r.now) }
 {
+    let Some(table) = limits::table_kept(r) else {
+        return false;
+    };
     let n = r.n as usize;
-    let stock = r.stock;
-    let quorums = r.quorums as usize;
-    let table = r.table;
-    if !limits::limits_kept(n, units::asked_with(stock), quorums, table) {
-        return false;
-    }
-    let stations = r.stations;
-    if !station_range::stations_in(stations, n, stock, quorums) {
-        return false;
-    }
-    let arbiters = r.arbiters;
-    if !arbiter_range::arbiters_in(arbiters, n, stock) {
-        return false;
-    }
-    lane_range::both_in(r.up, r.down, n, stock)
+    let b = Bounds {
+        stations: n,
+        stock: r.stock,
+    };
+    station_range::stations_in(b, &r.stations[..n], table)
+        && arbiter_range::arbiters_in(b, &r.arbiters[..n])
+        && lane_range::rows_in(b, &r.up.rows[..n], Direction::Up)
+        && lane_range::rows_in(b, &r.down.rows[..n], Direction::Down)
 }

@@ -1,58 +1,41 @@
 // Whether stations are in range: the numbers that they work with.
-ghost use Rattle.std.specs.Prelude.{◌≡◌, List, ℕ, ◌≤◌, ◌&&◌, ltb, length};
-ghost use Rattle.lists.specs.Search.{every_below};
+ghost use Rattle.std.specs.Prelude.{◌≡◌, ◌&&◌, ltb, length};
+ghost use Rattle.lists.specs.Search.{all};
 ghost use Rattle.plain.specs.InRange.{phase_in as phase_in_rule};
-ghost use Rattle.quorum.specs.Limits.{most_stations};
 ghost use Rattle.units.specs.Units.{request_in as request_in_rule};
-ghost use Rattle.records.specs.View.{phases_of};
+ghost use Rattle.records.specs.View.{phase_of};
 
-use crate::{STATIONS, Station};
+use crate::Station;
+use crate::bounds::Bounds;
 use plain::Phase;
 use units::Units;
 
-// Whether a quorum and units are of a table with so many quorums and of this stock.
-fn wish_in(quorum: u8, units: Units, stock: Units, quorums: usize) -> bool
-    ensures { result ≡ (ltb quorum quorums && request_in_rule stock units) }
+// Whether a quorum and units are of this table and of this stock.
+fn wish_in(quorum: u8, units: Units, stock: Units, table: &[u16]) -> bool
+    ensures { result ≡ (ltb quorum (length table.now) && request_in_rule stock units) }
 {
-    if quorums <= quorum as usize {
-        return false;
-    }
-    units::request_in(stock, units)
+    (quorum as usize) < table.len() && units::request_in(stock, units)
 }
 
-fn phase_in(station: Station, n: usize, stock: Units, quorums: usize) -> bool
-    ensures { (table : List ℕ) → length table ≡ quorums → result ≡ phase_in_rule n stock table station.phase }
+#[tactic(auto, unfolding(plain::specs::InRange::phase_in))]
+fn phase_in(b: Bounds, phase: Phase, table: &[u16]) -> bool
+    ensures { result ≡ phase_in_rule b.stations b.stock table.now phase }
 {
-    let p = station.phase;
-    match p {
-        Phase::Idle => true,
+    match phase {
+        Phase::Idle | Phase::Withdrawing => true,
         Phase::Collecting {
             quorum,
             units,
             member,
-        } => {
-            if n <= member as usize {
-                return false;
-            }
-            wish_in(quorum, units, stock, quorums)
-        }
-        Phase::Holding { quorum, units } => wish_in(quorum, units, stock, quorums),
-        Phase::Withdrawing => true,
+        } => (member as usize) < b.stations && wish_in(quorum, units, b.stock, table),
+        Phase::Holding { quorum, units } => wish_in(quorum, units, b.stock, table),
     }
 }
 
-pub(crate) fn stations_in(
-    stations: [Station; STATIONS],
-    n: usize,
-    stock: Units,
-    quorums: usize,
-) -> bool
-    requires { n ≤ most_stations }
-    ensures { (table : List ℕ) → length table ≡ quorums → result ≡ every_below (λ s. phase_in_rule n stock table (phases_of n stations s)) n }
+pub(crate) fn stations_in(b: Bounds, stations: &[Station], table: &[u16]) -> bool
+    ensures { result ≡ all (λ s. phase_in_rule b.stations b.stock table.now (phase_of s)) stations.now }
 {
-    let mut s: usize = 0;
-    while s < n && phase_in(stations[s], n, stock, quorums) {
-        s += 1;
-    }
-    s == n
+    stations
+        .iter()
+        .all(|station| phase_in(b, station.phase, table))
 }

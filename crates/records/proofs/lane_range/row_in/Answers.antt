@@ -1,19 +1,8 @@
--- `records::lane_range::row_in` meets its contract. All lanes before the one in hand are in range.
+-- `records::lane_range::row_in` meets its contract.
 -- Assumes nothing.
-use mathlib.Core.Logic.{inl, inr}
-use mathlib.Core.Path.{sym, ◌∙◌}
-use Rattle.lists.proofs.Searches.{tested_none, tested_more, tested_left}
-use Rattle.records.proofs.Ranging.{row_in_lem}
+use Rattle.std.proofs.Common.{arith}
+use Rattle.records.proofs.Ranging.{row_kept}
 use Rattle.records.proofs.lane_range.row_in.Goals as goal
-use Rattle.records.proofs.lane_range.row_in.Goals.{then-loop-j-test+else-lane_in, else-loop-j-test}
-
-pub loop-j-init : goal.loop-j-init
-loop-j-init c = search tested_none
-
-pub loop-j-preserved : goal.loop-j-preserved
-loop-j-preserved c = search tested_more
 
 pub returns : goal.returns
-returns c =
-    let a = c.args in
-    rw (row_in_lem a.upward a.n a.stock a.w) ((elim c.loop-j-test.branch [ then-loop-j-test+else-lane_in w ↦ tested_left c.loop-j.invariant (λ x. x) (λ x. x) (inl (sym w.lane_in.ensures ∙ w.if-lane_in.false)) | else-loop-j-test w ↦ tested_left c.loop-j.invariant (λ x. x) (λ x. x) (inr w.loop-j-test.false) ]))
+returns c = rw (row_kept c.args.b.stations c.args.b.stock c.args.direction c.args.w.now (omega arith)) c.lanes_in.ensures
