@@ -10,10 +10,7 @@ pub(crate) fn table_kept(r: &Record) -> Option<&[u16]>
     ensures { MatchOption result (broken_limit_rule r.now.n (asked_with_rule r.now.stock) (table_of r.now) ≢ 0) (λ table. (table.now ≡ table_of r.now) × (broken_limit_rule r.now.n (asked_with_rule r.now.stock) (table_of r.now) ≡ 0)) }
 {
     let table = r.table.get(..r.quorums as usize)?;
-    let n = r.n as usize;
     let k = units::asked_with(r.stock);
-    if quorum::limits::broken_limit(n, k, table) != refusals::NO_REFUSAL {
-        return None;
-    }
+    quorum::limits::kept(r.n as usize, k, table).ok()?;
     Some(table)
 }

@@ -1,74 +1,84 @@
 -- `arbiters::delivery::deliver` meets its contract. Refusals in their order; then the message arrives, and the line can be served.
 -- Assumes nothing.
-use mathlib.Core.Bool.{true, false, not}
-use mathlib.Core.List.{List}
-use mathlib.Core.Path.{◌≡◌, refl, sym, ap, ap₂, ◌∙◌}
-use Prim.Native.Nat.{◌<◌}
-use native.Mathlib.Omega.{arith}
+use Rattle.std.proofs.Common.{◌≡◌, refl, sym, ap, ap₂, ◌∙◌, Bool, true, false, List, arith}
+use mathlib.Core.Bool.{not, cond}
+use Rattle.std.proofs.lemmas.Result.{err_from_is_err_and}
 use borrow.Author.Tests.{le-leb}
 use Rattle.plain.specs.Arbiter.{arrived, served}
 use Rattle.plain.specs.Lanes.{line_places, passes}
 use Rattle.plain.specs.State.{Arbiter as PlainArbiter}
 use Rattle.plain.specs.declared.Entry.{Entry}
+use Rattle.refusals.specs.Numbers.{number_of}
+use Rattle.refusals.specs.declared.Refusal.{Refusal}
+use Rattle.refusals.proofs.Outcomes.{some_number}
 use Rattle.records.specs.View.{arbiter_of}
-use Rattle.arbiters.specs.Telling.{servable, told_of}
+use Rattle.arbiters.specs.Inner.Ready.{Serves}
+use Rattle.arbiters.specs.Telling.{servable, line_full, told_of}
 use Rattle.arbiters.proofs.TellingArbiter.{servable_serves, arrived-servable, telling-refused, telling_full, telling-done}
 use Rattle.arbiters.proofs.delivery.deliver.Goals as goal
-use Rattle.arbiters.proofs.delivery.deliver.Goals.{Else-arrival, Else-not-is_servable, Start}
+use Rattle.arbiters.proofs.delivery.deliver.Goals.{Else-not-is_servable, In_ok-joined}
 
 pub returns-then-not-is_servable : goal.returns-then-not-is_servable
-returns-then-not-is_servable c =
-    record { told = c.refuse.ensures.told c.args.n ∙ sym (telling-refused _ _ _ _ _ 0 (tt, ap not (sym c.is_servable.ensures ∙ c.if-not-is_servable.true)) refl); refused = λ z. c.refuse.ensures.same }
+unfolding told_of
+returns-then-not-is_servable c = sym (telling-refused _ _ _ _ _ 0 (tt, ap not (sym c.is_servable.ensures ∙ c.if-not-is_servable.true)) refl)
 
-fit : (c : Else-not-is_servable) → servable c.args.n (arbiter_of c.args.n c.args.a) ≡ true
+fit : (c : Else-not-is_servable) → servable c.args.n (arbiter_of c.args.n c.args.a.now) ≡ true
 fit c = sym c.is_servable.ensures ∙ c.if-not-is_servable.false
 
 pub returns-then-n-s : goal.returns-then-n-s
-returns-then-n-s c =
-    record { told = c.refuse-then-n-s.ensures.told c.args.n ∙ sym (telling-refused _ _ _ _ _ 1 ((ap not (fit (goal.at.returns-then-n-s c).Else-not-is_servable), tt), le-leb _ _ c.if-n-s.true) refl); refused = λ z. c.refuse-then-n-s.ensures.same }
+unfolding told_of
+returns-then-n-s c = sym (telling-refused _ _ _ _ _ 1 ((ap not (fit (goal.at.returns-then-n-s c).Else-not-is_servable), tt), le-leb _ _ c.if-n-s.true) refl)
 
-pub arrive-arrival-requires : goal.arrive-arrival-requires
-arrive-arrival-requires c =
-    let serves = servable_serves c.args.n c.args.a (fit (goal.at.arrive-arrival-requires c).Else-not-is_servable) in
+pub arrive-requires : goal.arrive-requires
+arrive-requires c =
+    let serves = servable_serves c.args.n c.args.a.now (fit (goal.at.arrive-requires c).Else-not-is_servable) in
     (omega (arith, serves.few), serves.short)
 
-pub returns-then-arrival : goal.returns-then-arrival
-returns-then-arrival c =
-    record { told = c.refuse-then-arrival.ensures.told c.args.n ∙ sym (telling_full _ _ _ _ _ (fit (goal.at.returns-then-arrival c).Else-not-is_servable) c.if-n-s.false (sym (c.arrive-arrival.ensures.full c.args.n) ∙ c.if-arrival.true)); refused = λ z. c.refuse-then-arrival.ensures.same }
+has_room : (b : Bool) → 0 ≡ cond b line_full 0 → b ≡ false
+has_room true e = absurd (omega arith)
+has_room false e = refl
+
+err_full : (r : Refusal) (b : Bool) → number_of r ≡ cond b line_full 0 → (b ≡ true) × (number_of r ≡ line_full)
+err_full r true e = (refl, e)
+err_full r false e = absurd (some_number r e)
 
 -- the message has arrived
-module _ (c : Else-arrival) where
-  abbrev others : Else-not-is_servable
-  others = c.before.before.before
-
-  abbrev start : Start
-  start = others.before.before
-
+module _ (c : In_ok-joined) where
   abbrev before : PlainArbiter
-  before = arbiter_of start.args.n start.args.a
+  before = arbiter_of c.args.n c.args.a.now
 
-  abbrev station : start.args.s < start.args.n
-  station = c.if-n-s.false
+  room : passes line_places (arrived c.args.m c.args.s before).line ≡ false
+  room = has_room _ (c.in_ok-joined.ensures.refusal c.args.n)
 
-  room : passes line_places (arrived start.args.m start.args.s before).line ≡ false
-  room = sym (c.arrive-arrival.ensures.full start.args.n) ∙ c.if-arrival.false
+  same : arbiter_of c.args.n c.in_ok-joined.joined ≡ arrived c.args.m c.args.s before
+  same = c.in_ok-joined.ensures.arbiter c.args.n c.if-n-s.false
 
-  same : arbiter_of start.args.n c.arrive-arrival.result.arbiter ≡ arrived start.args.m start.args.s before
-  same = c.arrive-arrival.ensures.arbiter c.if-arrival.false start.args.n station
+  fits : servable c.args.n before ≡ true
+  fits = sym c.is_servable.ensures ∙ c.if-not-is_servable.false
+
+  serves : Serves c.args.n c.in_ok-joined.joined
+  serves = servable_serves c.args.n c.in_ok-joined.joined (rw same (arrived-servable c.args.n c.args.m c.args.s before c.if-n-s.false fits room))
+
+pub returns-in_err-joined : goal.returns-in_err-joined
+unfolding told_of
+returns-in_err-joined c =
+    let p = err_from_is_err_and c.from_residual.result c.from_residual.ensures.1 in
+    let full = err_full c.in_err-joined.field-0.0 _ (c.in_err-joined.ensures.refusal c.args.n) in
+    rw (p.1, p.2, full.1) (sym (telling_full _ _ _ _ _ (sym c.is_servable.ensures ∙ c.if-not-is_servable.false) c.if-n-s.false full.0))
 
 pub serve-service-requires : goal.serve-service-requires
-serve-service-requires c =
-    let st = start (goal.at.serve-service-requires c).Else-arrival in
-    servable_serves st.args.n c.arrive-arrival.result.arbiter (rw (same (goal.at.serve-service-requires c).Else-arrival) (arrived-servable st.args.n st.args.m st.args.s (before (goal.at.serve-service-requires c).Else-arrival) (station (goal.at.serve-service-requires c).Else-arrival) (fit (others (goal.at.serve-service-requires c).Else-arrival)) (room (goal.at.serve-service-requires c).Else-arrival)))
+serve-service-requires c = serves (goal.at.serve-service-requires c).In_ok-joined
+
+pub invariant_of-result : goal.invariant_of-result
+invariant_of-result c = record { within = let s = serves (goal.at.invariant_of-result c).In_ok-joined in omega (arith, s.short, c.serve-service.ensures.grants.1) }
 
 pub returns : goal.returns
 unfolding told_of
 returns c =
-    let n = (start (goal.at.returns c).Else-arrival).args.n in
-    let stock = (start (goal.at.returns c).Else-arrival).args.stock in record {
-      told = ap₂ (λ (a : PlainArbiter) (g : List Entry). record { refusal = 0; arbiter = a; grants = g })
-          (c.serve-service.ensures.arbiter ∙ ap (λ (x : PlainArbiter). (served n stock x).arbiter) (same (goal.at.returns c).Else-arrival))
-          (c.serve-service.ensures.grants.0 ∙ ap (λ (x : PlainArbiter). (served n stock x).grants) (same (goal.at.returns c).Else-arrival))
-          ∙ sym (telling-done _ _ _ _ _ (fit (others (goal.at.returns c).Else-arrival)) (station (goal.at.returns c).Else-arrival) (room (goal.at.returns c).Else-arrival));
-      refused = λ z. absurd (omega arith);
-    }
+    let w = (goal.at.returns c).In_ok-joined in
+    let n = c.args.n in
+    let stock = c.args.stock in
+    ap₂ (λ (a : PlainArbiter) (g : List Entry). record { refusal = 0; arbiter = a; grants = g })
+    (c.serve-service.ensures.arbiter ∙ ap (λ (x : PlainArbiter). (served n stock x).arbiter) (same w))
+    (c.serve-service.ensures.grants.0 ∙ ap (λ (x : PlainArbiter). (served n stock x).grants) (same w))
+    ∙ sym (telling-done _ _ _ _ _ (fits w) c.if-n-s.false (room w))

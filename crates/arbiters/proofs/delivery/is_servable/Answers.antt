@@ -1,15 +1,22 @@
--- `arbiters::delivery::is_servable` meets its contract. The lengths are tested first, so that no entry past the array is read.
+-- `arbiters::delivery::is_servable` meets its contract. The line fits the array, and then its entries are tested.
 -- Assumes nothing.
-use mathlib.Core.Path.{sym, ◌∙◌}
+use Rattle.std.proofs.Common.{sym, ap, ◌∙◌, arith}
+use Rattle.std.proofs.lemmas.Grind.{common_steps}
+use Rattle.lists.specs.Search.{all}
+use Rattle.lists.proofs.Slices.{front-cut}
+use Rattle.records.specs.View.{no_entry}
+use Rattle.arbiters.specs.Telling.{is_of}
 use Rattle.arbiters.proofs.TellingArbiter.{too_many, too_long, by_entries}
 use Rattle.arbiters.proofs.delivery.is_servable.Goals as goal
 
-pub returns-then-n-gt-STATIONS : goal.returns-then-n-gt-STATIONS
-returns-then-n-gt-STATIONS c = sym (too_many _ c.args.a c.if-n-gt-STATIONS.true)
+pub returns-in_default : goal.returns-in_default
+returns-in_default c = sym (too_long _ c.args.a.now (omega (arith, c.in_default.ensures)))
 
-pub returns-then-len-gt-LINE_PLACES : goal.returns-then-len-gt-LINE_PLACES
-returns-then-len-gt-LINE_PLACES c = sym (too_long _ c.args.a c.if-len-gt-LINE_PLACES.true)
+pub returns-then-n-le-STATIONS : goal.returns-then-n-le-STATIONS
+returns-then-n-le-STATIONS c =
+    let a = c.args.a.now in
+    let line = c.in-Some.ensures.lookup.0.2 ∙ front-cut no_entry a.len a.line (omega (arith, c.in-Some.ensures)) in
+    c.all_of.ensures ∙ ap (all (is_of c.args.n)) line ∙ sym (by_entries _ a c.if-n-le-STATIONS.true (omega (arith, c.in-Some.ensures)))
 
-pub returns : goal.returns
-returns c =
-    c.all_of.ensures ∙ sym (by_entries _ c.args.a c.if-n-gt-STATIONS.false c.if-len-gt-LINE_PLACES.false)
+pub returns-else-n-le-STATIONS : goal.returns-else-n-le-STATIONS
+returns-else-n-le-STATIONS c = grind (arith, common_steps, too_many)
