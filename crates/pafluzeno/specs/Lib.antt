@@ -3,3 +3,4 @@ pub mod Checks
 pub mod Made
 pub mod Counted
 pub mod Writing
+pub mod Replying
