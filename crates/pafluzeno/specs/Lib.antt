@@ -4,3 +4,4 @@ pub mod Made
 pub mod Counted
 pub mod Writing
 pub mod Replying
+pub mod Tallies

@@ -1,12 +1,9 @@
-// The journal's calls that read: lines and records, and records added up. A part of a lent text goes to C as its place in that text and its
-// length.
+// The journal's calls that read: lines and records. A part of a lent text goes to C as its place in that text and its length.
 ghost use Rattle.std.specs.Prelude.{◌≡◌, length};
 ghost use Rattle.journal_lines.specs.Forms.{journal_form};
 ghost use Rattle.journal_lines.specs.Lines.{line_value, line_place};
 ghost use Rattle.journal_reading.specs.JournalRecords.{read_of, record_in, after_record as after_record_rule};
-ghost use Rattle.archive.specs.Tallies.{tally_of, tallying};
 
-use archive::Totals;
 use journal_reading::ReadRecord;
 
 // A part of a lent text: where it begins, and its bytes.
@@ -48,12 +45,4 @@ pub extern "C" fn pafluzeno_after_record(text: &[u8]) -> Part
     let len = rest.len();
     let place = text.len() - len;
     Part { place, len }
-}
-
-// A text that is records and nothing else, added up.
-#[unsafe(no_mangle)]
-pub extern "C" fn pafluzeno_tally(text: &[u8]) -> Totals
-    ensures { tally_of result ≡ tallying text.now }
-{
-    archive::tally(text)
 }
