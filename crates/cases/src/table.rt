@@ -19,10 +19,10 @@ fn print_judged(rt: &impl Print, refusal: u8, width: usize, even: bool) -> io::R
 }
 
 fn print_family(rt: &impl Print, width: usize, family: &[u8]) -> io::Result<()> {
-    let mut before = " family=";
-    for number in family.iter().take(width) {
-        print!(rt; "{before}{number}")?;
-        before = " ";
+    print!(rt; " family=")?;
+    for (i, number) in family.iter().take(width).enumerate() {
+        let gap = if i == 0 { "" } else { " " };
+        print!(rt; "{gap}{number}")?;
     }
     Ok(())
 }
