@@ -5,3 +5,4 @@ pub mod Counted
 pub mod Writing
 pub mod Replying
 pub mod Tallies
+pub mod Reading

@@ -17,7 +17,9 @@ mod writing;
 
 pub use arrivals::{Arrival, MessageKind, Reply, pafluzeno_tell};
 pub use checks::{Checked, NextMember};
-pub use journal::{Part, pafluzeno_after_record, pafluzeno_read_line, pafluzeno_read_record};
+pub use journal::{
+    Part, ReadRecord, pafluzeno_after_record, pafluzeno_read_line, pafluzeno_read_record,
+};
 pub use makers::{Made, pafluzeno_cube, pafluzeno_singleton, pafluzeno_uniform};
 pub use survivals::{Counted, pafluzeno_outages};
 pub use tallies::{Sum, Totals, pafluzeno_tally};
