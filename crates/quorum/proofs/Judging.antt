@@ -8,7 +8,7 @@ use native.Mathlib.Omega.{arith}
 use lib.Dec.{leb}
 use lib.ListN.{get_or}
 use lib.Pow.{ones_lt}
-use borrow.Author.Tests.{eq-eqb, ne_eqb, leb-true}
+use borrow.Author.Tests.{eq-eqb, ne_eqb, leb-true, le-ltb}
 use Rattle.std.specs.Prelude.{Ok, Err}
 use Rattle.lists.specs.Cut.{cut}
 use Rattle.lists.proofs.Tests.{and_left}
@@ -48,6 +48,11 @@ module _ (n k : ℕ) (table : List ℕ) (room : ℕ) where
     pub scratch_short : room < scratch_bytes → refused 5 ≡ answer n k table room
     unfolding answer answer_to
     scratch_short short = rw (refusal_five n k table room kept short)
+
+    -- more scratch changes nothing
+    pub answer-enough : scratch_bytes ≤ room → answer n k table scratch_bytes ≡ answer n k table room
+    unfolding answer refusal
+    answer-enough enough = rw (le-ltb room scratch_bytes enough)
 
     -- ---- on enough scratch, with the byte of every set
 

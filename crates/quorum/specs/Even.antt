@@ -1,14 +1,13 @@
 -- Even tables.
-use Rattle.std.specs.Prelude.{Bool, cond, ◌&&◌, List, [], ◌∷◌, ℕ, ◌+◌, eqb}
+use Rattle.std.specs.Prelude.{Bool, cond, ◌&&◌, List, ℕ, eqb, count_by}
 use Rattle.lists.specs.Search.{all, every_below}
 use Rattle.stations.specs.Member.{member}
 use Rattle.stations.specs.Sets.{size}
 use Rattle.quorum.specs.Family.{quorum}
 
 -- the number of quorums that station i belongs to
-unfoldable pub belongs : List ℕ → ℕ → ℕ
-belongs [] i = 0
-belongs (q ∷ table) i = cond (member q i) 1 0 + belongs table i
+abbrev pub belongs : List ℕ → ℕ → ℕ
+belongs table i = count_by (λ q. member q i) table
 
 -- "all stations belong to equally many quorums"
 abbrev pub equal_shares : ℕ → List ℕ → Bool

@@ -1,16 +1,15 @@
 // The check of a quorum table: it accepts exactly the k-arbiters of RR-2523 within document 01's limits.
 #![tactic(auto)]
 
-ghost use Rattle.std.specs.Prelude.{◌≡◌, ◌&&◌, ◌+◌, ◌≤◌, leb, length, drop, get_or};
+ghost use Rattle.std.specs.Prelude.{◌≡◌, length};
 ghost use Rattle.refusals.specs.Numbers.{number_of};
-ghost use Rattle.stations.specs.Sets.{everyone};
 ghost use Rattle.quorum.specs.Answer.{answer, rejection_of, said};
-ghost use Rattle.quorum.specs.Inner.Need.{size_of};
-ghost use Rattle.quorum.specs.Limits.{most_stations, most_units, broken_limit};
 ghost use Rattle.quorum.specs.Scratch.{scratch_bytes, cleaned};
 ghost use Rattle.quorum.specs.declared.Rejected.TheVariants.{Refused};
 
+use need::Bytes;
 use refusals::Refusal;
+use table::Table;
 
 mod even;
 mod family;
@@ -18,6 +17,7 @@ pub mod limits;
 mod need;
 mod nested;
 mod scratch;
+mod table;
 mod without;
 
 // Document 01's limits: stations, units of the stock, quorums of a table.
@@ -87,66 +87,49 @@ impl From<Refusal> for Rejected {
     }
 }
 
-// The width, once the scratch has the byte of every set: what all n stations need.
-fn width_of(n: usize, bytes: &[u8]) -> usize
-    requires { (n ≤ most_stations) × (scratch_bytes ≤ length bytes.now) }
-    ensures { result ≡ size_of (get_or bytes.now (everyone n) 0) }
+// The answer to a table within the limits, on as many bytes of scratch as the check wants.
+fn judge(table: &Table, bytes: &mut Bytes) -> Result<Accepted, Rejected>
+    ensures { said result ≡ answer table.now.stations table.now.stock table.now.quorums.now scratch_bytes }
 {
-    let all = stations::everyone(n) as usize;
-    let byte = bytes[all];
-    if byte == need::NO_NEED {
-        return 0;
-    }
-    byte as usize
-}
-
-// Whether a table of this width lacks a common member at this stock.
-fn lacks(k: usize, width: usize) -> bool
-    requires { k ≤ most_units }
-    ensures { result ≡ (leb 2 width && leb width (k + 1)) }
-{
-    if width < 2 {
-        return false;
-    }
-    width <= k + 1
-}
-
-// The answer to a table within the limits, on enough scratch.
-fn judge(n: usize, k: usize, quorums: &[u16], scratch: &mut [u8]) -> Result<Accepted, Rejected>
-    requires { (broken_limit n k quorums.now ≡ 0) × (scratch_bytes ≤ length scratch.old) }
-    ensures answered { said result ≡ answer n k quorums.now (length scratch.old) }
-    ensures beyond { drop scratch_bytes scratch.new ≡ drop scratch_bytes scratch.old }
-{
-    need::fill(n, quorums, scratch);
-    let width = width_of(n, scratch);
-    if lacks(k, width) {
-        let family = family::first_family(n, quorums, scratch);
-        let even = even::is_even(n, quorums);
+    table.fill(bytes);
+    let width = table.width(bytes);
+    if table.lacks_common(width) {
         return Err(Rejected::NoCommonMember {
             width,
-            even, // as on an accepted table
-            family,
+            even: table.is_even(), // as on an accepted table
+            family: table.first_family(bytes),
         });
     }
-    if nested::is_nested(quorums) {
+    if table.is_nested() {
         return Err(Rejected::Nested { width });
     }
     Ok(Accepted {
         width,
-        even: even::is_even(n, quorums),
+        even: table.is_even(),
     })
 }
 
-// The same, with the limits and the scratch tested before. It leaves the first bytes of a long scratch as it pleases.
+// The same, on those bytes as a part of a scratch. Another length is no part of one that is long enough.
+fn judge_in(table: &Table, bytes: &mut [u8]) -> Result<Accepted, Rejected>
+    requires { length bytes.old ≡ scratch_bytes }
+    ensures { said result ≡ answer table.now.stations table.now.stock table.now.quorums.now scratch_bytes }
+{
+    match bytes.try_into() {
+        Ok(bytes) => judge(table, bytes),
+        Err(_) => Err(Rejected::Refused(Refusal::ShortScratch)),
+    }
+}
+
+// The same, of any table and scratch. It leaves the first bytes of a long scratch as it pleases.
 fn answer_of(n: usize, k: usize, quorums: &[u16], scratch: &mut [u8]) -> Result<Accepted, Rejected>
     ensures answered { said result ≡ answer n k quorums.now (length scratch.old) }
     ensures cleaned { cleaned scratch.new ≡ cleaned scratch.old }
 {
-    limits::kept(n, k, quorums)?;
+    let table = Table::within_limits(n, k, quorums)?;
     if scratch.len() < SCRATCH_BYTES {
         return Err(Rejected::Refused(Refusal::ShortScratch));
     }
-    judge(n, k, quorums, scratch)
+    judge_in(&table, &mut scratch[..SCRATCH_BYTES])
 }
 
 // Refusal, width, even and family of the table, for any numbers and slices. A lent scratch of 4,096
@@ -156,6 +139,6 @@ pub fn check(n: usize, k: usize, quorums: &[u16], scratch: &mut [u8]) -> Result<
     ensures cleaned { scratch.new ≡ cleaned scratch.old }
 {
     let answer = answer_of(n, k, quorums, scratch);
-    scratch::clean(scratch, SCRATCH_BYTES); // what judging left in it
+    scratch::clean(scratch); // what judging left in it
     answer
 }

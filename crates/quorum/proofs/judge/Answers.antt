@@ -2,50 +2,32 @@
 -- Assumes nothing.
 use mathlib.Core.Path.{sym, ◌∙◌}
 use native.Mathlib.Omega.{arith}
-use lib.ListN.{length}
+use Rattle.quorum.specs.Scratch.{scratch_bytes}
 use Rattle.quorum.proofs.Judging.{byte_finite, six, seven, accepted}
-use Rattle.quorum.proofs.LimitLaws.{limits_kept}
 use Rattle.quorum.proofs.judge.Goals as goal
 
-pub fill-requires : goal.fill-requires
-fill-requires c =
-    let limits = limits_kept c.args.n c.args.k c.args.quorums.now c.requires.0 in
-    (limits.stations.1, limits.quorums.1, c.requires.1)
+pub first_family-requires-clause-some : goal.first_family-requires-clause-some
+first_family-requires-clause-some c =
+    let table = c.args.table.now in
+    byte_finite table.stations table.stock table.quorums.now scratch_bytes table.kept (omega arith) c.fill.new.bytes c.fill.ensures
+    c.width-width.result c.width-width.ensures (sym c.lacks_common.ensures ∙ c.if-lacks_common.true)
 
-pub width_of-width-requires : goal.width_of-width-requires
-width_of-width-requires c =
-    ((limits_kept c.args.n c.args.k c.args.quorums.now c.requires.0).stations.1, omega (arith, c.requires.1, c.fill.auto.scratch))
+pub returns-then-lacks_common : goal.returns-then-lacks_common
+returns-then-lacks_common c =
+    let table = c.args.table.now in
+    six table.stations table.stock table.quorums.now scratch_bytes table.kept (omega arith) c.fill.new.bytes c.fill.ensures
+    c.width-width.result c.width-width.ensures (sym c.lacks_common.ensures ∙ c.if-lacks_common.true)
+    c.first_family.result c.first_family.ensures c.is_even.result c.is_even.ensures
 
-pub lacks-requires : goal.lacks-requires
-lacks-requires c =
-    (limits_kept c.args.n c.args.k c.args.quorums.now c.requires.0).stock.1
+pub returns-then-is_nested : goal.returns-then-is_nested
+returns-then-is_nested c =
+    let table = c.args.table.now in
+    seven table.stations table.stock table.quorums.now scratch_bytes table.kept (omega arith) c.fill.new.bytes c.fill.ensures
+    c.width-width.result c.width-width.ensures (sym c.lacks_common.ensures ∙ c.if-lacks_common.false) (sym c.is_nested.ensures ∙ c.if-is_nested.true)
 
-pub first_family-family-requires : goal.first_family-family-requires
-first_family-family-requires c =
-    let fill = c.fill in
-    let limits = limits_kept c.args.n c.args.k c.args.quorums.now c.requires.0 in record {
-      n_nonzero = (limits.stations.0, limits.stations.1, limits.quorums.1, omega (arith, c.requires.1, fill.auto.scratch));
-      needs = fill.ensures.needs;
-      fact = byte_finite c.args.n c.args.k c.args.quorums.now (length c.args.scratch.now) c.requires.0 c.requires.1 fill.new.scratch fill.ensures.needs
-          c.width_of-width.result c.width_of-width.ensures (sym c.lacks.ensures ∙ c.if-lacks.true);
-    }
-
-pub returns-then-lacks-clause-answered : goal.returns-then-lacks-clause-answered
-returns-then-lacks-clause-answered c =
-    let fill = c.fill in
-    six c.args.n c.args.k c.args.quorums.now (length c.args.scratch.now) c.requires.0 c.requires.1 fill.new.scratch fill.ensures.needs
-    c.width_of-width.result c.width_of-width.ensures (sym c.lacks.ensures ∙ c.if-lacks.true)
-    c.first_family-family.result c.first_family-family.ensures c.is_even-even.result c.is_even-even.ensures
-
-pub returns-then-is_nested-clause-answered : goal.returns-then-is_nested-clause-answered
-returns-then-is_nested-clause-answered c =
-    let fill = c.fill in
-    seven c.args.n c.args.k c.args.quorums.now (length c.args.scratch.now) c.requires.0 c.requires.1 fill.new.scratch fill.ensures.needs
-    c.width_of-width.result c.width_of-width.ensures (sym c.lacks.ensures ∙ c.if-lacks.false) (sym c.is_nested.ensures ∙ c.if-is_nested.true)
-
-pub returns-clause-answered : goal.returns-clause-answered
-returns-clause-answered c =
-    let fill = c.fill in
-    accepted c.args.n c.args.k c.args.quorums.now (length c.args.scratch.now) c.requires.0 c.requires.1 fill.new.scratch fill.ensures.needs
-    c.width_of-width.result c.width_of-width.ensures (sym c.lacks.ensures ∙ c.if-lacks.false) (sym c.is_nested.ensures ∙ c.if-is_nested.false)
-    c.is_even.result c.is_even.ensures
+pub returns : goal.returns
+returns c =
+    let table = c.args.table.now in
+    accepted table.stations table.stock table.quorums.now scratch_bytes table.kept (omega arith) c.fill.new.bytes c.fill.ensures
+    c.width-width.result c.width-width.ensures (sym c.lacks_common.ensures ∙ c.if-lacks_common.false) (sym c.is_nested.ensures ∙ c.if-is_nested.false)
+    c.is_even-2.result c.is_even-2.ensures
