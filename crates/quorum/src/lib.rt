@@ -94,9 +94,10 @@ fn judge(table: &Table, bytes: &mut Bytes) -> Result<Accepted, Rejected>
     table.fill(bytes);
     let width = table.width(bytes);
     if table.lacks_common(width) {
+        let even = table.is_even();
         return Err(Rejected::NoCommonMember {
             width,
-            even: table.is_even(), // as on an accepted table
+            even, // as on an accepted table
             family: table.first_family(bytes),
         });
     }

@@ -47,7 +47,10 @@ fn lowest_left(v: u8) -> u8
     if v == NO_NEED {
         return NO_NEED;
     }
-    v.saturating_sub(1)
+    if v == 0 {
+        return 0;
+    }
+    v - 1
 }
 
 impl Table<'_> {

@@ -17,7 +17,7 @@ returns-then-lacks_common c =
     let table = c.args.table.now in
     six table.stations table.stock table.quorums.now scratch_bytes table.kept (omega arith) c.fill.new.bytes c.fill.ensures
     c.width-width.result c.width-width.ensures (sym c.lacks_common.ensures ∙ c.if-lacks_common.true)
-    c.first_family.result c.first_family.ensures c.is_even.result c.is_even.ensures
+    c.first_family.result c.first_family.ensures c.is_even-even.result c.is_even-even.ensures
 
 pub returns-then-is_nested : goal.returns-then-is_nested
 returns-then-is_nested c =
@@ -30,4 +30,4 @@ returns c =
     let table = c.args.table.now in
     accepted table.stations table.stock table.quorums.now scratch_bytes table.kept (omega arith) c.fill.new.bytes c.fill.ensures
     c.width-width.result c.width-width.ensures (sym c.lacks_common.ensures ∙ c.if-lacks_common.false) (sym c.is_nested.ensures ∙ c.if-is_nested.false)
-    c.is_even-2.result c.is_even-2.ensures
+    c.is_even.result c.is_even.ensures

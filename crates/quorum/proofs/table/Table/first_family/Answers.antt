@@ -17,9 +17,7 @@ loop-p-init c =
 
 pub bounds-bytes-left : goal.bounds-bytes-left
 bounds-bytes-left c =
-    let at = c.loop-p in
-    let table = c.args.self.now in
-    omega (arith, c.common-left.ensures, and_le_l at.rest (get_or table.quorums.now at.p 0), at.invariant.fits, pow_mono {i = table.stations} {j = 12} (omega arith))
+    omega (arith, c.common-left.ensures, and_le_l, c.loop-p.invariant.fits, pow_mono {i = c.args.self.now.stations} {j = 12} (omega arith))
 
 pub bounds-bytes-rest : goal.bounds-bytes-rest
 bounds-bytes-rest c = omega (arith, c.loop-p.invariant.fits, pow_mono {i = c.args.self.now.stations} {j = 12} (omega arith))
