@@ -14,6 +14,7 @@ mod uniforms;
 
 use cubes::Cube;
 use refusals::Refusal;
+use uniforms::Sets;
 
 // Each maker answers the number of quorums written, and leaves the buffer as it was where it refuses.
 
@@ -32,8 +33,8 @@ pub fn uniform(n: usize, k: usize, out: &mut [u16]) -> Result<usize, Refusal>
     ensures answered { said result ≡ answer (uniform_refusal n k (length out.old)) (uniform_table n k) }
     ensures written { out.new ≡ written (uniform_refusal n k (length out.old)) (uniform_table n k) out.old }
 {
-    let size = uniforms::fitting(n, k, out.len())?;
-    Ok(uniforms::write_sets(n, size, 0, 0, out))
+    let sets = Sets::fitting(n, k, out.len())?;
+    Ok(sets.write(0, out))
 }
 
 // For each of a^(k + 1) stations the quorum of those that agree with it in at least one coordinate.
