@@ -30,8 +30,8 @@ pub fn up_to(most: usize, x: usize) -> bool
     1 <= x && x <= most
 }
 
-#[tactic(auto, unfolding(crate::specs::Limits::broken_limit))]
 // Whether a table keeps the limits 1 to 4; the first that it breaks refuses it.
+#[tactic(auto, unfolding(crate::specs::Limits::broken_limit))]
 pub fn kept(n: usize, k: usize, quorums: &[u16]) -> Result<(), Refusal>
     ensures { refusal_of result ≡ broken_limit n k quorums.now }
 {

@@ -20,8 +20,8 @@ fn is_comparable(quorum: u16, others: &[u16]) -> bool
 }
 
 impl Table<'_> {
-    #[tactic(auto, unfolding(crate::specs::Nested::nested))]
     // Whether one entry contains or equals another entry.
+    #[tactic(auto, unfolding(crate::specs::Nested::nested))]
     pub(crate) fn is_nested(&self) -> bool
         ensures { result ≡ nested self.now.quorums.now }
     {

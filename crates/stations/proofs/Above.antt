@@ -87,10 +87,6 @@ pub from_all : (q : ℕ) → members_from q 0 ≡ size q
 unfolding how_many
 from_all q = omega (arith, count_split q 0 (omega arith))
 
--- where none is found: there is nothing above 16
-pub none_above : (q i : ℕ) → places ≤ lowest_from q i → members_above q (lowest_from q i) ≡ 0
-none_above q i h = from_end q (suc (lowest_from q i)) (omega arith)
-
 -- where there are no places, nothing follows
 pub next_end : (q from : ℕ) → places ≤ from → ◌≡◌ {A = NextMember} (record { member = places; above = 0 }) (next_from q from)
 unfolding next_from

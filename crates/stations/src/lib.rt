@@ -17,6 +17,7 @@ pub struct NextMember {
 }
 
 // Whether station i is a member of q. No station from 16 on is.
+#[tactic(auto, using(crate::proofs::Members::member_beyond), unfolding(crate::specs::Member::member))]
 pub fn has(q: u16, i: usize) -> bool
     ensures { result ≡ member q i }
 {
@@ -27,6 +28,7 @@ pub fn has(q: u16, i: usize) -> bool
 }
 
 // The set of station i alone. A mask has no place for a station from 16 on.
+#[tactic(auto, using(crate::proofs::Members::shifted_one, crate::proofs::Built::only_below, crate::proofs::Built::only_beyond))]
 pub fn only(i: usize) -> u16
     ensures { result ≡ only_of i }
 {
@@ -37,6 +39,7 @@ pub fn only(i: usize) -> u16
 }
 
 // The set of the stations 0 to n - 1. A mask has no place for a station from 16 on.
+#[tactic(auto, using(crate::proofs::Built::only_below, crate::proofs::Built::only_some, crate::proofs::Members::everyone_places))]
 pub fn everyone(n: usize) -> u16
     ensures { result ≡ all_of (min n places) }
 {
@@ -54,6 +57,7 @@ pub fn common(a: u16, b: u16) -> u16
 }
 
 // Whether a contains or equals b.
+#[tactic(auto, unfolding(crate::specs::Sets::contains))]
 pub fn contains(a: u16, b: u16) -> bool
     ensures { result ≡ contains_all a b }
 {
@@ -61,6 +65,7 @@ pub fn contains(a: u16, b: u16) -> bool
 }
 
 // The number of members.
+#[tactic(auto, using(crate::proofs::Ones::ones_count))]
 pub fn count(q: u16) -> usize
     ensures { result ≡ size q }
 {
