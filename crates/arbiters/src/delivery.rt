@@ -79,11 +79,5 @@ pub fn deliver(
         return Err(Refusal::NoSuchStation);
     }
     let joined = arrive(*a, s, m)?;
-    let line = joined.line;
-    let service = service::serve(joined, n, stock);
-    Ok(Delivery {
-        arbiter: service.arbiter,
-        grants: service.grants,
-        line,
-    })
+    Ok(service::serve(joined, n, stock))
 }

@@ -1,46 +1,33 @@
 // What the call for one message makes of a station's own arbiter record, by value.
 ghost use Rattle.std.specs.Prelude.{true, false, ◌≡◌, ◌≤◌, MatchResult};
-ghost use Rattle.lists.specs.Cut.{cut};
 ghost use Rattle.quorum.specs.Limits.{most_stations, most_units};
-ghost use Rattle.plain.specs.Lanes.{line_places};
-ghost use Rattle.records.specs.View.{no_entry, arbiter_of};
+ghost use Rattle.records.specs.View.{arbiter_of};
 ghost use Rattle.units.specs.Units.{stock_of as stock_of_rule, asked_with};
 ghost use Rattle.arbiters.specs.Lent.{is_granted as is_granted_rule, granted_set as granted_set_rule, bad_units, sent_up, lending, lent_of};
 
 use crate::{Incoming, Settled, Upward, delivery};
 use plain::{Entry, Message};
-use records::{Arbiter, LINE_PLACES, STATIONS};
+use records::{Arbiter, STATIONS};
 use refusals::Refusal;
 use units::Units;
 
-// Whether station t is among the first entries of the line.
-fn is_granted(line: [Entry; LINE_PLACES], grants: usize, t: usize) -> bool
-    requires { grants ≤ line_places }
-    ensures { result ≡ is_granted_rule (cut no_entry grants line) t }
+// Whether station t is among those of the entries granted.
+fn is_granted(granted: &[Entry], t: usize) -> bool
+    ensures { result ≡ is_granted_rule granted.now t }
 {
-    let mut i: usize = 0;
-    while i < grants {
-        let e = line[i];
-        if e.station as usize == t {
-            return true;
-        }
-        i += 1;
-    }
-    false
+    granted.iter().any(|e| e.station as usize == t)
 }
 
-// The stations of the first entries of the line, as a set.
-fn granted_set(line: [Entry; LINE_PLACES], grants: usize) -> u16
-    requires { grants ≤ line_places }
-    ensures { result ≡ granted_set_rule (cut no_entry grants line) }
+// The stations of the entries granted, as a set.
+#[tactic(auto, using(stations::proofs::Built::set_pass, stations::proofs::Built::set_fail, stations::proofs::Built::set_below, stations::proofs::Built::only_below, std::proofs::lemmas::Grind::common_steps), unfolding(stations::specs::Sets::set_of))]
+fn granted_set(granted: &[Entry]) -> u16
+    ensures { result ≡ granted_set_rule granted.now }
 {
-    let mut set: u16 = 0;
-    let mut t: usize = 0;
-    while t < STATIONS {
-        if is_granted(line, grants, t) {
+    let mut set = 0;
+    for t in 0..STATIONS {
+        if is_granted(granted, t) {
             set += stations::only(t);
         }
-        t += 1;
     }
     set
 }
@@ -81,7 +68,7 @@ pub fn settle(a: &Arbiter, i: Incoming) -> Result<Settled, Refusal>
     let m = sent(i.message, stock)?;
     let delivery = delivery::deliver(a, STATIONS, stock, i.station, m)?;
     Ok(Settled {
-        granted: granted_set(delivery.line, delivery.grants),
+        granted: granted_set(delivery.granted()),
         arbiter: delivery.arbiter,
     })
 }

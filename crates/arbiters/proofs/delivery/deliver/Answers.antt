@@ -66,11 +66,8 @@ returns-in_err-joined c =
     let full = err_full c.in_err-joined.field-0.0 _ (c.in_err-joined.ensures.refusal c.args.n) in
     rw (p.1, p.2, full.1) (sym (telling_full _ _ _ _ _ (sym c.is_servable.ensures ∙ c.if-not-is_servable.false) c.if-n-s.false full.0))
 
-pub serve-service-requires : goal.serve-service-requires
-serve-service-requires c = serves (goal.at.serve-service-requires c).In_ok-joined
-
-pub invariant_of-result : goal.invariant_of-result
-invariant_of-result c = record { within = let s = serves (goal.at.invariant_of-result c).In_ok-joined in omega (arith, s.short, c.serve-service.ensures.grants.1) }
+pub serve-requires : goal.serve-requires
+serve-requires c = serves (goal.at.serve-requires c).In_ok-joined
 
 pub returns : goal.returns
 unfolding told_of
@@ -79,6 +76,6 @@ returns c =
     let n = c.args.n in
     let stock = c.args.stock in
     ap₂ (λ (a : PlainArbiter) (g : List Entry). record { refusal = 0; arbiter = a; grants = g })
-    (c.serve-service.ensures.arbiter ∙ ap (λ (x : PlainArbiter). (served n stock x).arbiter) (same w))
-    (c.serve-service.ensures.grants.0 ∙ ap (λ (x : PlainArbiter). (served n stock x).grants) (same w))
+    (c.serve.ensures.arbiter ∙ ap (λ (x : PlainArbiter). (served n stock x).arbiter) (same w))
+    (c.serve.ensures.grants ∙ ap (λ (x : PlainArbiter). (served n stock x).grants) (same w))
     ∙ sym (telling-done _ _ _ _ _ (fits w) c.if-n-s.false (room w))

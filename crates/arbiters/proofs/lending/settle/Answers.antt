@@ -9,7 +9,7 @@ use Rattle.units.specs.Units.{asked_with, stock_of}
 use Rattle.units.proofs.Numbers.{asked-stored, stock-stored}
 use Rattle.plain.specs.InRange.{arbiter_in}
 use Rattle.records.specs.View.{arbiter_of}
-use Rattle.arbiters.specs.Lent.{lent_of}
+use Rattle.arbiters.specs.Lent.{granted_set, lent_of}
 use Rattle.arbiters.proofs.LendingArbiter.{lending-refused, lent_full, lent_done}
 use Rattle.arbiters.proofs.lending.settle.Goals as goal
 use Rattle.arbiters.proofs.lending.settle.Goals.{After-up_to, Else-not-arbiter_in_range, Else-not-up_to}
@@ -78,4 +78,4 @@ returns c =
     let e = (goal.at.returns c).Else-not-arbiter_in_range in
     let good = rw (is_stock (others e)) at c.in_ok-m.ensures.0 in
     let told = rw (is_stock (others e), c.in_ok-m.ensures.1) at c.in_ok-delivery.ensures in
-    lent_done _ _ _ _ (stock (others e), (range e, (lt-leb _ _ c.if-i-ge-STATIONS.false, (good, tt)))) (in_range e) c.if-i-ge-STATIONS.false _ _ told c.granted_set.ensures
+    lent_done _ _ _ _ (stock (others e), (range e, (lt-leb _ _ c.if-i-ge-STATIONS.false, (good, tt)))) (in_range e) c.if-i-ge-STATIONS.false _ _ told (c.granted_set.ensures ∙ ap granted_set c.granted.ensures)

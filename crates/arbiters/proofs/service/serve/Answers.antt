@@ -1,55 +1,38 @@
--- `arbiters::service::serve` meets its contract. What was granted before entry i, and what service makes of the rest; the loop ends where an entry does not fit, or at the end of the line.
+-- `arbiters::service::serve` meets its contract. What is granted of the line, and what is left of it.
 -- Assumes nothing.
-use mathlib.Core.List.{List}
-use mathlib.Core.Path.{◌≡◌, refl, sym, ap, ◌∙◌}
-use Prim.Native.Nat.{◌+◌, ◌-◌}
-use native.Mathlib.Omega.{arith}
-use lib.ListN.{drop}
-use borrow.Author.Rules.{rules}
+use Rattle.std.proofs.Common.{◌≡◌, sym, ap, ◌∙◌, ◌+◌, ◌-◌, ◌≤◌, length, take, drop, arith}
+use Rattle.std.proofs.lemmas.List.{take-take}
 use Rattle.lists.specs.Cut.{cut}
-use Rattle.units.specs.Granted.{granted_of}
-use Rattle.plain.specs.Arbiter.{Served, serve}
-use Rattle.plain.specs.declared.Entry.{Entry}
+use Rattle.lists.proofs.Cuts.{cut-take}
 use Rattle.records.specs.View.{no_entry, arbiter_of}
-use Rattle.records.proofs.Good.{granted_of_lem}
-use Rattle.arbiters.proofs.ServingLine.{ends_at, serve-more, serve_stop, serve_end}
+use Rattle.records.proofs.Good.{line_of}
 use Rattle.arbiters.proofs.service.serve.Goals as goal
-use Rattle.arbiters.proofs.service.serve.Goals.{else-loop-i-test, then-loop-i-test+then-not-fits, Left-loop-i, Start}
+use Rattle.arbiters.proofs.service.serve.Goals.{After-grant-grants}
 
-pub loop-i-init : goal.loop-i-init
-loop-i-init c = (search rules, granted_of_lem c.args.a _ c.well_formed.0, refl)
+module _ (c : After-grant-grants) where
+  places : length c.args.a.line ≡ 12
+  places = line_of c.args.a _ c.well_formed.0
 
-pub bounds-granted-s : goal.bounds-granted-s
-bounds-granted-s c =
-    omega (arith, c.requires.named c.loop-i.i (omega arith), c.requires.few)
+  line : take c.args.a.len c.args.a.line ≡ cut no_entry c.args.a.len c.args.a.line
+  line = sym (cut-take no_entry c.args.a.len c.args.a.line (omega (arith, places, c.requires.short)))
 
-pub loop-i-preserved : goal.loop-i-preserved
-loop-i-preserved c =
-    let named = c.requires.named c.loop-i.i (omega arith) in
-    let few = c.requires.few in
-    let step = serve-more c.args.n c.args.stock c.args.a.len c.args.a.line c.loop-i.i c.loop-i.granted (omega arith) named (omega arith) (sym c.fits.ensures ∙ c.if-not-fits.false) in
-    (search rules, search rules, c.loop-i.invariant.2 ∙ step)
-
--- where the loop is left, by its test or by the break, the rest of the line stays
-module _ (c : Left-loop-i) where
-  abbrev start : Start
-  start = c.before.before.before.before.before
-
-  left_at : serve start.args.n start.args.stock (granted_of start.args.n start.args.a.granted) (cut no_entry start.args.a.len start.args.a.line)
-      ≡ ends_at start.args.n start.args.stock start.args.a.len start.args.a.line c.loop-i.i c.loop-i.granted
-  left_at =
-      c.loop-i.invariant.2
-      ∙ elim c.loop-i-test.branch [
-        | then-loop-i-test+then-not-fits w ↦ serve_stop start.args.n start.args.stock start.args.a.len start.args.a.line c.loop-i.i c.loop-i.granted (omega arith) (sym w.fits.ensures ∙ w.if-not-fits.true)
-        | else-loop-i-test w ↦ serve_end start.args.n start.args.stock start.args.a.len start.args.a.line c.loop-i.i c.loop-i.granted (omega arith)
-      ]
-
-pub returns : goal.returns
+pub returns-clause-arbiter : goal.returns-clause-arbiter
 unfolding arbiter_of
-returns c =
-    let st = start (goal.at.returns c).Left-loop-i in
-    let e = left_at (goal.at.returns c).Left-loop-i in
-    let i = c.loop-i.i in
-    let len = st.args.a.len in
-    let back : len - i + i ≡ len = omega arith in
-    let line : cut no_entry (len - i) c.shifted-rest.result ≡ drop i (cut no_entry len st.args.a.line) = rw back at (c.shifted-rest.ensures (len - i) (omega arith)) in record { arbiter = ap (λ (w : List Entry). record { granted = granted_of st.args.n c.loop-i.granted; line = w }) line ∙ sym (ap (λ (r : Served). r.arbiter) e); grants = (sym (ap (λ (r : Served). r.grants) e), omega arith) }
+returns-clause-arbiter c =
+    let start = (goal.at.returns-clause-arbiter c).After-grant-grants in
+    let a = c.args.a in
+    let by = c.grant-grants.result in
+    let within : by ≤ a.len = omega (arith, c.grant-grants.ensures.within, places start, c.requires.short) in
+    let back : a.len - by + by ≡ a.len = omega arith in
+    let rest : cut no_entry (a.len - by) c.shifted-rest.result ≡ drop by (take a.len a.line) =
+    rw back at (c.shifted-rest.ensures (a.len - by) (omega (arith, c.requires.short))) ∙ ap (drop by) (sym (line start)) in
+    rw (rest, sym (line start)) c.grant-grants.ensures.arbiter
+
+pub returns-clause-grants : goal.returns-clause-grants
+unfolding arbiter_of
+returns-clause-grants c =
+    let start = (goal.at.returns-clause-grants c).After-grant-grants in
+    let a = c.args.a in
+    let by = c.grant-grants.result in
+    let within : by ≤ a.len = omega (arith, c.grant-grants.ensures.within, places start, c.requires.short) in
+    cut-take no_entry by a.line (omega (arith, places start, c.requires.short)) ∙ sym (take-take by a.len a.line within) ∙ rw (sym (line start)) c.grant-grants.ensures.grants
