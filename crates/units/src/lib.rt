@@ -12,7 +12,7 @@ pub use fitting::fits;
 pub const STATIONS: usize = quorum::MOST_STATIONS;
 
 #[repr(C)]
-#[derive(Clone, Copy)]
+#[derive(Clone, Copy, Debug, PartialEq, Eq)]
 pub struct Units {
     pub positions: u8,
 }
