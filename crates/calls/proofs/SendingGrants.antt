@@ -102,6 +102,11 @@ cut_later d (suc i) zero xs h = absurd (not-suc-le-zero h)
 cut_later {A} d (suc i) (suc n) [] h = let (rest, e) = cut_later d i n [] (le_of_suc-le-suc h) in (rest, ap (λ (l : List A). d ∷ l) e)
 cut_later {A} d (suc i) (suc n) (x ∷ xs) h = let (rest, e) = cut_later d i n xs (le_of_suc-le-suc h) in (rest, ap (λ (l : List A). x ∷ l) e)
 
+-- a list that is cut at its end
+pub whole : {A : Type 0} (d : A) (xs : List A) → cut d (length xs) xs ≡ xs
+whole d [] = refl
+whole d (x ∷ xs) = ap (◌∷◌ x) (whole d xs)
+
 module _ (lanes : ℕ → ℕ → List Message) (j : ℕ) (line : List Entry) where
   -- the lanes when the entries before i have been granted
   abbrev pub granted_before : ℕ → ℕ → ℕ → List Message

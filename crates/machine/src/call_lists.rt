@@ -3,16 +3,17 @@ ghost use Rattle.std.specs.Prelude.{true, [], ◌∷◌, ◌++◌, ◌≡◌, �
 ghost use Rattle.std.proofs.lemmas.List.Edits.{sets};
 ghost use Rattle.plain.specs.Run.{call, run as run_of, after};
 ghost use Rattle.records.specs.View.{view};
-ghost use Rattle.calls.specs.Answers.{answer_of};
-ghost use Rattle.units.specs.Units.{number_of};
-ghost use Rattle.machine.specs.Performing.{answer_words, formed, well_formed, call_of, calls_of, words_of};
+ghost use Rattle.plain.specs.State.{State};
+ghost use Rattle.refusals.specs.Numbers.{refusal_of};
+ghost use Rattle.calls.specs.Answers.{answered_by, answer_of};
+ghost use Rattle.machine.specs.Performing.{answer_words, formed, well_formed, call_of, calls_of, words_of, list_refusal};
 
 use crate::{
     ANSWER_NUMBERS, CALL_NUMBERS, DO_DOWN, DO_RELEASE, DO_REQUEST, DO_UP, DO_WITHDRAW, WORDS_OF_DO,
 };
-use calls::Answer;
+use calls::{Answer, Returned};
 use records::Record;
-use units::Units;
+use refusals::Refusal;
 
 pub fn is_formed(what: u16, with: u16, units: u16) -> bool
     ensures { result ≡ formed what with units }
@@ -63,6 +64,19 @@ pub(crate) fn answer_to(r: Record, what: u16, station: u16, with: u16, units: u1
     calls::withdraw(r, s)
 }
 
+// Whether a list is of the form, and its answers find room in so many numbers.
+pub(crate) fn tested(calls: &[u16], room: usize) -> Result<(), Refusal>
+    ensures { refusal_of result ≡ list_refusal calls.now room }
+{
+    if !all_formed(calls) {
+        return Err(Refusal::BadForm);
+    }
+    if room / ANSWER_NUMBERS < calls.len() / CALL_NUMBERS {
+        return Err(Refusal::ShortBuffer);
+    }
+    Ok(())
+}
+
 // The answer to the call whose numbers begin at place i.
 fn answer_at(r: Record, calls: &[u16], i: usize) -> Answer
     requires { i + 4 ≤ length calls.now }
@@ -71,17 +85,38 @@ fn answer_at(r: Record, calls: &[u16], i: usize) -> Answer
     answer_to(r, calls[i], calls[i + 1], calls[i + 2], calls[i + 3])
 }
 
-// The numbers of an answer, from place `at` on.
-fn write_answer(answers: &mut [u16], at: usize, refusal: u8, entered: Units, left: Units, above: u8)
-    requires { at + answer_words ≤ length answers.old }
-    ensures { answers.new ≡ sets answers.old at (refusal ∷ number_of entered ∷ number_of left ∷ above ∷ []) }
+// The numbers of an answer: the refusal, the units entered and left, and the members still to come.
+fn numbers_of(outcome: Result<Returned, Refusal>) -> [u16; ANSWER_NUMBERS]
+    ensures { (st : State) → result ≡ words_of (answered_by outcome st ∷ []) }
 {
-    let entered = units::number_of(entered);
-    let left = units::number_of(left);
-    answers[at] = refusal as u16;
-    answers[at + 1] = entered as u16;
-    answers[at + 2] = left as u16;
-    answers[at + 3] = above as u16;
+    match outcome {
+        Ok(returned) => {
+            let Returned {
+                entered,
+                left,
+                above,
+            } = returned;
+            [
+                0,
+                units::number_of(entered) as u16,
+                units::number_of(left) as u16,
+                above as u16,
+            ]
+        }
+        Err(refusal) => [refusal.number() as u16, 0, 0, 0],
+    }
+}
+
+// They are written from place `at` on.
+fn write_answer(answers: &mut [u16], at: usize, numbers: [u16; ANSWER_NUMBERS])
+    requires { at + answer_words ≤ length answers.old }
+    ensures { answers.new ≡ sets answers.old at numbers }
+{
+    let [refusal, entered, left, above] = numbers;
+    answers[at] = refusal;
+    answers[at + 1] = entered;
+    answers[at + 2] = left;
+    answers[at + 3] = above;
 }
 
 // All calls of the list, each on the record that the one before returned, and their answers.
@@ -95,11 +130,8 @@ pub(crate) fn run(r: Record, calls: &[u16], answers: &mut [u16]) -> Record
     let mut at: usize = 0;
     while i < calls.len() {
         let a = answer_at(record, calls, i);
-        let entered = a.entered;
-        let left = a.left;
-        write_answer(answers, at, a.refusal, entered, left, a.above);
-        let next = a.record;
-        record = next;
+        write_answer(answers, at, numbers_of(a.outcome));
+        record = a.record;
         i += CALL_NUMBERS;
         at += ANSWER_NUMBERS;
     }

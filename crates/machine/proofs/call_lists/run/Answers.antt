@@ -1,8 +1,11 @@
 -- `machine::call_lists::run` meets its contract. What has been answered, and the calls that are left.
 -- Assumes nothing.
+use mathlib.Core.Path.{ap, ◌∙◌}
 use native.Mathlib.Omega.{arith}
+use lib.Seq.{sets}
 use Rattle.records.specs.View.{view}
 use Rattle.calls.specs.Answers.{answer_of}
+use Rattle.machine.specs.Performing.{words_of}
 use Rattle.machine.proofs.GoingOn.{same_length as same-room, going_none, whole, room, going_more, all_after, all-stored}
 use Rattle.machine.proofs.call_lists.run.Goals as goal
 
@@ -18,9 +21,11 @@ write_answer-requires c =
     room c.args.calls.now c.args.answers.now (view c.args.r) _ _ _ _ c.loop-i.invariant c.requires.0 c.requires.1 (omega arith)
 
 pub loop-i-preserved : goal.loop-i-preserved
-unfolding answer_of
+unfolding answer_of words_of
 loop-i-preserved c =
-    going_more c.args.calls.now c.args.answers.now (view c.args.r) _ _ _ _ c.loop-i.invariant (omega arith) (answer_of c.answer_at-a.result) c.answer_at-a.ensures c.write_answer.new.answers c.write_answer.ensures
+    let a = c.answer_at-a.result in
+    going_more c.args.calls.now c.args.answers.now (view c.args.r) _ _ _ _ c.loop-i.invariant (omega arith) (answer_of a) c.answer_at-a.ensures c.write_answer.new.answers
+    (c.write_answer.ensures ∙ ap (sets c.loop-i.answers c.loop-i.at) (c.numbers_of.ensures (view a.«record»)))
 
 pub shape_of-answers : goal.shape_of-answers
 shape_of-answers c =

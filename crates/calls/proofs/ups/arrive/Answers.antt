@@ -1,0 +1,57 @@
+-- `calls::ups::arrive` meets its contract. 14 where the line or a lane down would pass its limit; otherwise all of it is stored.
+-- Assumes nothing.
+use mathlib.Core.Path.{◌≡◌, sym, ap, ◌∙◌}
+use native.Mathlib.Omega.{arith}
+use lib.ListN.{get_or}
+use borrow.Author.Rules.{rules}
+use Rattle.std.specs.Prelude.{Err}
+use Rattle.std.proofs.lemmas.List.{set-get_or}
+use Rattle.plain.specs.Answer.{Returned, refused, done}
+use Rattle.arbiters.proofs.TellingArbiter.{told_full, told_14}
+use Rattle.records.specs.View.{view, no_arbiter}
+use Rattle.records.proofs.Storing.{store_up, store_arbiter, store_down}
+use Rattle.calls.proofs.DeliveringUp.{fit, line_full_lem, lane-down_full, all-stored, facts, grants-are, sends}
+use Rattle.calls.proofs.SendingMessage.{had_room, no_room}
+use Rattle.calls.proofs.TakingMessage.{up-takeable, up-without}
+use Rattle.calls.proofs.ups.arrive.Goals as goal
+
+pub returns-in_err-delivery-clause-answer : goal.returns-in_err-delivery-clause-answer
+returns-in_err-delivery-clause-answer c =
+    let r = c.args.r.now in
+    let x = c.in_err-delivery.field-0.0 in
+    let t = c.requires in
+    let a = get_or r.arbiters c.args.j no_arbiter in
+    let f = fit r c.args.s c.args.j c.args.m t in
+    let e : c.from_residual.result ≡ Err x = search rules in
+    let full = told_full r.n r.stock c.args.s c.args.m a f t.took.station x c.in_err-delivery.ensures in
+    let number = told_14 r.n r.stock c.args.s c.args.m a f t.took.station x c.in_err-delivery.ensures in
+    rw (set-get_or r.arbiters c.args.j no_arbiter, e) (ap (refused (view r)) number ∙ sym (line_full_lem r c.args.s c.args.j c.args.m t full))
+
+pub send-requires : goal.send-requires
+send-requires c = sends c.args.r.now c.args.s c.args.j c.args.m c.requires c.in_ok-delivery.delivery c.in_ok-delivery.ensures c.granted.result.now c.granted.ensures
+
+pub returns-in_err-send-clause-answer : goal.returns-in_err-send-clause-answer
+returns-in_err-send-clause-answer c =
+    let r = c.args.r.now in
+    let x = c.in_err-send.field-0.0 in
+    let are = grants-are r c.args.s c.args.j c.args.m c.requires c.in_ok-delivery.delivery c.in_ok-delivery.ensures c.granted.result.now c.granted.ensures in
+    let e : c.from_residual-in_err-send.result ≡ Err x = search rules in
+    let (full, number) = no_room _ x c.in_err-send.ensures.refusal in
+    rw (set-get_or r.arbiters c.args.j no_arbiter, e) (ap (refused (view r)) number ∙ sym (lane-down_full r c.args.s c.args.j c.args.m c.requires c.granted.result.now are full))
+
+pub take_between-requires : goal.take_between-requires
+take_between-requires c = up-takeable c.args.r.now c.args.s c.args.j c.requires
+
+pub returns-clause-answer : goal.returns-clause-answer
+returns-clause-answer c =
+    let r = c.args.r.now in
+    let s = c.args.s in
+    let j = c.args.j in
+    let t = c.requires in
+    let d = c.in_ok-delivery.delivery in
+    let g = c.granted.result.now in
+    let f = facts r s j c.args.m t d c.in_ok-delivery.ensures g c.granted.ensures in
+    let are = grants-are r s j c.args.m t d c.in_ok-delivery.ensures g c.granted.ensures in
+    rw (set-get_or r.arbiters j no_arbiter)
+    (ap (λ (x : Returned). done x (view (store_down c.send.new.down (store_arbiter j d.arbiter (store_up c.take_between.new.all r))))) c.nothing.ensures
+    ∙ sym (all-stored r s j c.args.m t g are d.arbiter c.take_between.new.all c.send.new.down (omega (arith, t.few, t.took.arbiter)) f.arbiter c.in_ok-send.ensures.lanes (up-without r s j t c.take_between.new.all c.take_between.ensures) f.room (had_room _ c.in_ok-send.ensures.refusal)))
