@@ -19,6 +19,7 @@ use uniforms::Sets;
 // Each maker answers the number of quorums written, and leaves the buffer as it was where it refuses.
 
 // One quorum of one of n stations.
+#[tactic(auto, unfolding(crate::specs::Made::answer, crate::specs::Made::written), using(refusals::proofs::Outcomes::some_number))]
 pub fn singleton(n: usize, station: usize, out: &mut [u16]) -> Result<usize, Refusal>
     ensures answered { said result ≡ answer (singleton_refusal n station (length out.old)) (singleton_table station) }
     ensures written { out.new ≡ written (singleton_refusal n station (length out.old)) (singleton_table station) out.old }
@@ -29,6 +30,7 @@ pub fn singleton(n: usize, station: usize, out: &mut [u16]) -> Result<usize, Ref
 }
 
 // All sets of floor(k × n / (k + 1)) + 1 of n stations, by ascending number.
+#[tactic(auto, unfolding(crate::specs::Made::answer, crate::specs::Made::written), using(refusals::proofs::Outcomes::some_number))]
 pub fn uniform(n: usize, k: usize, out: &mut [u16]) -> Result<usize, Refusal>
     ensures answered { said result ≡ answer (uniform_refusal n k (length out.old)) (uniform_table n k) }
     ensures written { out.new ≡ written (uniform_refusal n k (length out.old)) (uniform_table n k) out.old }
@@ -38,6 +40,7 @@ pub fn uniform(n: usize, k: usize, out: &mut [u16]) -> Result<usize, Refusal>
 }
 
 // For each of a^(k + 1) stations the quorum of those that agree with it in at least one coordinate.
+#[tactic(auto, unfolding(crate::specs::Made::answer, crate::specs::Made::written), using(refusals::proofs::Outcomes::some_number))]
 pub fn cube(a: usize, k: usize, out: &mut [u16]) -> Result<usize, Refusal>
     ensures answered { said result ≡ answer (cube_refusal a k (length out.old)) (cube_table a k) }
     ensures written { out.new ≡ written (cube_refusal a k (length out.old)) (cube_table a k) out.old }

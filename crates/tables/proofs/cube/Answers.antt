@@ -3,17 +3,10 @@
 use Rattle.std.proofs.Common.{length, sym, ap, ◌∙◌, arith}
 use mathlib.Core.Path.{ap₂}
 use lib.Seq.{sets}
-use Rattle.std.proofs.lemmas.Result.{err_from_is_err_and}
 use Rattle.tables.specs.Cube.{cube_table, cube_stations}
-use Rattle.tables.proofs.Making.{on_refusal, on_table}
+use Rattle.tables.proofs.Making.{on_table}
 use Rattle.tables.proofs.CubeArbiter.{cube_kept, cube_length}
 use Rattle.tables.proofs.cube.Goals as goal
-
-pub returns-in_err-cube : goal.returns-in_err-cube
-returns-in_err-cube c =
-    let p = err_from_is_err_and c.from_residual.result c.from_residual.ensures.1 in
-    let (answered, written) = on_refusal (cube_table c.args.a c.args.k) c.args.out.now _ c.in_err-cube.field-0.0 c.in_err-cube.ensures.refused in
-    record { answered = rw (p.1, p.2) answered; written = written }
 
 pub write-requires : goal.write-requires
 write-requires c =

@@ -2,18 +2,11 @@
 -- Assumes nothing.
 use Rattle.std.proofs.Common.{length, refl, sym, ap, ◌∙◌, arith}
 use lib.ListN.{set}
-use Rattle.std.proofs.lemmas.Result.{err_from_is_err_and}
 use Rattle.stations.proofs.Built.{only_below}
 use Rattle.tables.specs.Singleton.{singleton_table}
-use Rattle.tables.proofs.Making.{on_refusal, on_table}
+use Rattle.tables.proofs.Making.{on_table}
 use Rattle.tables.proofs.SingletonArbiter.{singleton_kept}
 use Rattle.tables.proofs.singleton.Goals as goal
-
-pub returns-in_err-fits : goal.returns-in_err-fits
-returns-in_err-fits c =
-    let p = err_from_is_err_and c.from_residual.result c.from_residual.ensures.1 in
-    let (answered, written) = on_refusal (singleton_table c.args.station) c.args.out.now _ c.in_err-fits.field-0.0 c.in_err-fits.ensures in
-    record { answered = rw (p.1, p.2) answered; written = written }
 
 pub bounds-out-0 : goal.bounds-out-0
 bounds-out-0 c =

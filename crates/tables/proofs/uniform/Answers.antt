@@ -1,22 +1,15 @@
 -- `tables::uniform` meets its contract: refused, or all sets stored from the front.
 -- Assumes nothing.
 use Rattle.std.proofs.Common.{length, sym, ◌∙◌, arith}
-use Rattle.std.proofs.lemmas.Result.{err_from_is_err_and}
 use mathlib.Core.Path.{ap₂}
 use lib.Pow.{pow_mono}
 use Rattle.stations.specs.Sizes.{choose}
 use Rattle.tables.specs.Inner.Stored.{stored}
 use Rattle.tables.specs.Uniform.{uniform_table, uniform_size}
-use Rattle.tables.proofs.Making.{on_refusal, on_table}
+use Rattle.tables.proofs.Making.{on_table}
 use Rattle.tables.proofs.UniformArbiter.{uniform_kept, uniform_length}
 use Rattle.tables.proofs.WritingSets.{stored_front}
 use Rattle.tables.proofs.uniform.Goals as goal
-
-pub returns-in_err-sets : goal.returns-in_err-sets
-returns-in_err-sets c =
-    let p = err_from_is_err_and c.from_residual.result c.from_residual.ensures.1 in
-    let (answered, written) = on_refusal (uniform_table c.args.n c.args.k) c.args.out.now _ c.in_err-sets.field-0.0 c.in_err-sets.ensures.refused in
-    record { answered = rw (p.1, p.2) answered; written = written }
 
 pub write-requires : goal.write-requires
 write-requires c =
