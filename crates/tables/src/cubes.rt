@@ -32,7 +32,7 @@ impl Cube {
         if !quorum::limits::up_to(quorum::MOST_UNITS, k) {
             return Err(Refusal::BadStock);
         }
-        let stations = a.checked_pow(k as u32 + 1).unwrap_or(0);
+        let stations = a.checked_pow(k as u32 + 1).unwrap_or(0); // no cube either where the power does not fit
         if !quorum::limits::up_to(quorum::MOST_STATIONS, stations) {
             return Err(Refusal::NoCube);
         }

@@ -17,8 +17,8 @@ pub struct Units {
     pub positions: u8,
 }
 
-// What follows are functions and no methods, and this one is no Default: each name is a word of the definitions too (`units_of`, `fits` ..), and the
-// proofs of every crate above cite the call under it, so that a method of another name is no plainer.
+// What follows are functions, no methods and no conversions by From: there are two rules from a number (`units_of`, `stock_of`) and two to one
+// (`number_of`, `asked_with`), and each name is a word of the definitions, under which the crates above call and cite it.
 pub fn no_units() -> Units
     ensures { result ≡ no_units_rule }
 {
