@@ -14,8 +14,8 @@ use Rattle.lists.proofs.Arrays.{every_shown}
 use Rattle.lists.proofs.Cuts.{all-cut, cut-take}
 
 -- the slice from its front
-pub front-cut : {A : Type 0} (d : A) (n : ℕ) (xs : List A) → n ≤ length xs → slice_range xs 0 n ≡ cut d n xs
-front-cut d n xs h = rw sub-zero (sym (cut-take d n xs h))
+pub front_cut : {A : Type 0} (d : A) (n : ℕ) (xs : List A) → n ≤ length xs → slice_range xs 0 n ≡ cut d n xs
+front_cut d n xs h = rw sub-zero (sym (cut-take d n xs h))
 
 -- a test of all its places
 pub every_in_slice : {A B : Type 0} (n : ℕ) (none : B) (f : A → B) (d : A) (test : B → Bool) (xs : List A) → n ≤ length xs

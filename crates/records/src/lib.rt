@@ -34,6 +34,7 @@ pub struct Slot {
 }
 
 // Messages under way from a station to an arbiter, or back, oldest first.
+// No Vec: there is no heap, and a record is a value of fixed size. So it is of the table and of a line.
 #[derive(Clone, Copy)]
 pub struct Lane {
     pub len: u8,
@@ -58,6 +59,7 @@ pub struct Station {
 }
 
 // The units granted to each station, and the line of those that wait, oldest first.
+// C has it with this layout, and fills it with anything: the length is no part of a type that keeps to the array.
 #[repr(C)]
 #[derive(Clone, Copy)]
 pub struct Arbiter {
@@ -66,6 +68,7 @@ pub struct Arbiter {
     pub line: [Entry; LINE_PLACES],
 }
 
+// What belongs to a station stands in arrays of its kind, as the definitions read it (`view`): no call needs all that is one station's.
 #[derive(Clone, Copy)]
 pub struct Record {
     pub n: u8,
@@ -82,10 +85,11 @@ pub struct Record {
 pub fn arbiter_in_range(a: &Arbiter, n: usize, stock: Units) -> bool
     ensures { result ≡ (leb n most_stations && arbiter_in_rule n stock (arbiter_of n a.now)) }
 {
-    n <= STATIONS && arbiter_range::arbiter_in(Bounds { stations: n, stock }, a)
+    n <= STATIONS && Bounds { stations: n, stock }.arbiter_in(a)
 }
 
 // Whether the record is in range.
+#[tactic(auto, using(crate::proofs::Ranging::few_stations, crate::proofs::Ranging::record_kept, crate::proofs::Ranging::record_broken, std::proofs::lemmas::Grind::common_steps))]
 pub fn in_range(r: &Record) -> bool
     ensures { result ≡ in_range (view r.now) }
 {
@@ -97,8 +101,8 @@ pub fn in_range(r: &Record) -> bool
         stations: n,
         stock: r.stock,
     };
-    station_range::stations_in(b, &r.stations[..n], table)
-        && arbiter_range::arbiters_in(b, &r.arbiters[..n])
-        && lane_range::rows_in(b, &r.up.rows[..n], Direction::Up)
-        && lane_range::rows_in(b, &r.down.rows[..n], Direction::Down)
+    b.stations_in(&r.stations[..n], table)
+        && b.arbiters_in(&r.arbiters[..n])
+        && Direction::Up(r.stock).rows_in(b, &r.up.rows[..n])
+        && Direction::Down.rows_in(b, &r.down.rows[..n])
 }

@@ -6,6 +6,7 @@ ghost use Rattle.units.specs.Units.{asked_with as asked_with_rule};
 
 use crate::Record;
 
+#[tactic(auto, using(crate::proofs::Ranging::too_many_quorums, crate::proofs::Ranging::is_refused, crate::proofs::Ranging::is_done, lists::proofs::Slices::front_cut, std::proofs::lemmas::Grind::common_steps))]
 pub(crate) fn table_kept(r: &Record) -> Option<&[u16]>
     ensures { MatchOption result (broken_limit_rule r.now.n (asked_with_rule r.now.stock) (table_of r.now) ≢ 0) (λ table. (table.now ≡ table_of r.now) × (broken_limit_rule r.now.n (asked_with_rule r.now.stock) (table_of r.now) ≡ 0)) }
 {
