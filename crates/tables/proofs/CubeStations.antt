@@ -28,10 +28,22 @@ up_to_many n h = rw (lt-leb n most_stations h, le-leb 1 n (omega arith))
 
 module _ (a k : ℕ) where
   -- what the code takes for the stations are so many, or both are too many or none
-  pub worked_out : (power : Option ℕ) → SomeIff power (cube_stations a k < 2 ^ 64) (cube_stations a k)
+  worked_out : (power : Option ℕ) → SomeIff power (cube_stations a k < 2 ^ 64) (cube_stations a k)
       → (up_to most_stations (unwrap_or power 0) ≡ up_to most_stations (cube_stations a k))
       × (up_to most_stations (unwrap_or power 0) ≡ true → unwrap_or power 0 ≡ cube_stations a k)
   worked_out (Some n) h = (ap (up_to most_stations) h.1, λ e. h.1)
   worked_out None h =
       let large : most_stations < cube_stations a k = omega arith in
       (sym (up_to_many (cube_stations a k) large), λ e. absurd (clash e refl))
+
+  pub cube_refused : (power : Option ℕ) → up_to most_stations (unwrap_or power 0) ≡ false → SomeIff power (cube_stations a k < 2 ^ 64) (cube_stations a k)
+      → no_cube a k ≡ true
+  cube_refused power e h = no_cube-up_to a k ∙ ap not (sym (worked_out power h).0 ∙ e)
+
+  pub cube_allowed : (power : Option ℕ) → up_to most_stations (unwrap_or power 0) ≡ true → SomeIff power (cube_stations a k < 2 ^ 64) (cube_stations a k)
+      → no_cube a k ≡ false
+  cube_allowed power e h = no_cube-up_to a k ∙ ap not (sym (worked_out power h).0 ∙ e)
+
+  pub cube_made : (power : Option ℕ) → up_to most_stations (unwrap_or power 0) ≡ true → SomeIff power (cube_stations a k < 2 ^ 64) (cube_stations a k)
+      → unwrap_or power 0 ≡ cube_stations a k
+  cube_made power e h = (worked_out power h).1 e
