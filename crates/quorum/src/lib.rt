@@ -42,7 +42,7 @@ pub struct Accepted {
 pub enum Rejected {
     // By one of the refusals 1 to 5, which come before its width.
     Refused(Refusal),
-    // By 6. The first `width` numbers of the family are those of quorums without a common member.
+    // By 6. The first `width` numbers of the family are those of quorums without a common member; it is an array, since there is no heap.
     NoCommonMember {
         width: usize,
         even: bool,
@@ -94,11 +94,12 @@ fn judge(table: &Table, bytes: &mut Bytes) -> Result<Accepted, Rejected>
     table.fill(bytes);
     let width = table.width(bytes);
     if table.lacks_common(width) {
+        let family = table.first_family(bytes);
         let even = table.is_even();
         return Err(Rejected::NoCommonMember {
             width,
             even, // as on an accepted table
-            family: table.first_family(bytes),
+            family,
         });
     }
     if table.is_nested() {

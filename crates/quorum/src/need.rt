@@ -57,13 +57,12 @@ impl Table<'_> {
     // Fills the byte of every set whose highest station is i. Quorums that leave no station of it in common cannot all have i; one that has not
     // may as well come first, and what it leaves is a set of lower stations, whose byte is known. It leaves no less than it leaves of the set
     // without i, so no byte is lower than that set's byte less one.
-    fn fill_highest(&self, i: usize, bytes: &mut Bytes)
+    fn fill_highest(&self, i: usize, found: &mut [u16; MOST_QUORUMS], bytes: &mut Bytes)
         requires station { i < self.now.stations }
         requires below { Needs i self.now.quorums.now bytes.old }
         ensures { Needs (i + 1) self.now.quorums.now bytes.new }
     {
-        let mut found = [0u16; MOST_QUORUMS];
-        let found = self.without(i, &mut found);
+        let found = self.without(i, found);
         let first = stations::only(i);
         for set in first..first + first {
             let below = bytes[(set - first) as usize];
@@ -71,13 +70,15 @@ impl Table<'_> {
         }
     }
 
-    // Fills the byte of every set of its stations.
+    // Fills the byte of every set of its stations. Not inlined, so that its inner loop, which takes most of the time, is short.
+    #[inline(never)]
     pub(crate) fn fill(&self, bytes: &mut Bytes)
         ensures { Needs self.now.stations self.now.quorums.now bytes.new }
     {
+        let mut found = [0u16; MOST_QUORUMS]; // one list for all stations
         bytes[0] = 0;
         for i in 0..self.stations {
-            self.fill_highest(i, bytes);
+            self.fill_highest(i, &mut found, bytes);
         }
     }
 

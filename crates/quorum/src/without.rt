@@ -6,7 +6,7 @@ use crate::MOST_QUORUMS;
 use crate::table::Table;
 
 impl Table<'_> {
-    // Puts them into a lent list, and hands on the part that they fill.
+    // Puts them into a lent list, of fixed size since the check has no heap, and hands on the part that they fill.
     pub(crate) fn without<'f>(&self, i: usize, found: &'f mut [u16; MOST_QUORUMS]) -> &'f [u16]
         ensures { result.now ≡ without_of i self.now.quorums.now }
     {

@@ -3,21 +3,15 @@
 use mathlib.Core.Path.{sym, ◌∙◌}
 use native.Mathlib.Omega.{arith}
 use Rattle.quorum.specs.Scratch.{scratch_bytes}
-use Rattle.quorum.proofs.Judging.{byte_finite, six, seven, accepted}
+use Rattle.quorum.proofs.Judging.{six, seven, accepted}
 use Rattle.quorum.proofs.judge.Goals as goal
-
-pub first_family-requires-clause-some : goal.first_family-requires-clause-some
-first_family-requires-clause-some c =
-    let table = c.args.table.now in
-    byte_finite table.stations table.stock table.quorums.now scratch_bytes table.kept (omega arith) c.fill.new.bytes c.fill.ensures
-    c.width-width.result c.width-width.ensures (sym c.lacks_common.ensures ∙ c.if-lacks_common.true)
 
 pub returns-then-lacks_common : goal.returns-then-lacks_common
 returns-then-lacks_common c =
     let table = c.args.table.now in
     six table.stations table.stock table.quorums.now scratch_bytes table.kept (omega arith) c.fill.new.bytes c.fill.ensures
     c.width-width.result c.width-width.ensures (sym c.lacks_common.ensures ∙ c.if-lacks_common.true)
-    c.first_family.result c.first_family.ensures c.is_even-even.result c.is_even-even.ensures
+    c.first_family-family.result c.first_family-family.ensures c.is_even-even.result c.is_even-even.ensures
 
 pub returns-then-is_nested : goal.returns-then-is_nested
 returns-then-is_nested c =

@@ -6,9 +6,9 @@ use native.Mathlib.Omega.{arith}
 use lib.Bits.{bit_and, and_le_l}
 use lib.ListN.{drop, get_or, length-drop}
 use lib.Seq.{get_or-drop}
-use borrow.Author.Tests.{eq-eqb, ne_eqb}
+use borrow.Author.Tests.{ne_eqb}
 use Rattle.quorum.specs.Inner.Need.{no_need, least_byte, one_more}
-use Rattle.quorum.proofs.Needing.{least-next, least_end, least-low}
+use Rattle.quorum.proofs.Needing.{least-next, least-low}
 use Rattle.quorum.proofs.need.through_one.Goals as goal
 use Rattle.quorum.proofs.need.through_one.Goals.{else-byte-least, then-byte-least+else-byte-low}
 
@@ -48,17 +48,3 @@ loop-quorum-preserved c =
     let next : c.if-byte-least.least ≡ min at.least (get_or bytes (bit_and start.set (get_or table at.quorum-index 0)) 0) =
     elim c.if-byte-least.branch [ then-byte-least+else-byte-low w ↦ omega arith | else-byte-least w ↦ omega arith ] in
     (omega arith, ap (λ (b : ℕ). least_byte bytes start.set b (drop (at.quorum-index + 1) table)) next ∙ sym (least-next bytes start.set at.least table at.quorum-index (omega arith)) ∙ at.invariant.1)
-
-pub returns-then-least : goal.returns-then-least
-returns-then-least c =
-    let start = c.args in
-    let at = c.loop-quorum in
-    let all = sym at.invariant.1 ∙ least_end start.bytes.now start.set at.least start.quorums.now at.quorum-index (omega arith) in
-    rw (all, eq-eqb at.least no_need c.if-least.true)
-
-pub returns : goal.returns
-returns c =
-    let start = c.args in
-    let at = c.loop-quorum in
-    let all = sym at.invariant.1 ∙ least_end start.bytes.now start.set at.least start.quorums.now at.quorum-index (omega arith) in
-    rw (all, ne_eqb at.least no_need c.if-least.false)

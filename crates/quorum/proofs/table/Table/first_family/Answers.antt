@@ -1,19 +1,12 @@
 -- `Table::first_family` meets its contract. The loop's invariant is `Taking`: what is taken, and what will be, are the lowering quorums.
 -- Assumes nothing.
-use mathlib.Core.Path.{refl, ◌∙◌}
 use native.Mathlib.Omega.{arith}
 use lib.Bits.{and_le_l}
 use lib.ListN.{get_or}
 use lib.Pow.{pow_mono}
-use Rattle.stations.proofs.Members.{everyone-min}
-use Rattle.quorum.proofs.Taking.{taking_none, taking_room, taking_takes, taking_skips, taking_all}
+use Rattle.quorum.proofs.Taking.{taking_room, taking_takes, taking_skips, taking_all}
 use Rattle.quorum.proofs.table.Table.first_family.Goals as goal
 use Rattle.quorum.proofs.table.Table.first_family.Goals.{else-bytes-left, then-bytes-left}
-
-pub loop-p-init : goal.loop-p-init
-loop-p-init c =
-    let table = c.args.self.now in
-    taking_none table.stations table.quorums.now c.args.bytes.now _ c.everyone-rest.result refl (c.everyone-rest.ensures ∙ everyone-min table.stations (omega arith))
 
 pub bounds-bytes-left : goal.bounds-bytes-left
 bounds-bytes-left c =
