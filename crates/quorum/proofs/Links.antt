@@ -5,6 +5,9 @@ use mathlib.Core.Bool.{true}
 use prog.Linked.{Tree, World, Holds, in_world}
 use prog.LinkedThreads.{HasT}
 use Rattle.quorum.proofs.TheLink as link
+use Rattle.quorum.proofs.RefusalFromRejected.from.Symbol as refusal_from
+use Rattle.quorum.proofs.Rejected.refusal.Symbol as refusal
+use Rattle.quorum.proofs.RejectedFromRefusal.from.Symbol as rejected_from
 use Rattle.quorum.proofs.check.Symbol as check
 use Rattle.quorum.proofs.limits.kept.Symbol as kept
 use Rattle.quorum.proofs.limits.up_to.Symbol as up_to
@@ -25,3 +28,12 @@ module _ (W : World) (here : Holds W "quorum" table) (below : Below W) where
 
   pub up_to-linked : HasT (in_world W) true up_to.code
   up_to-linked = link.linked-quorum::limits::up_to W here below
+
+  pub refusal-linked : HasT (in_world W) true refusal.code
+  refusal-linked = link.linked-quorum::Rejected::refusal W here below
+
+  pub refusal_from-linked : HasT (in_world W) true refusal_from.code
+  refusal_from-linked = link.linked-quorum::RefusalFromRejected::from W here below
+
+  pub rejected_from-linked : HasT (in_world W) true rejected_from.code
+  rejected_from-linked = link.linked-quorum::RejectedFromRefusal::from W here below
