@@ -30,7 +30,7 @@ pub const MOST_QUORUMS: usize = 64;
 // The bytes of scratch that the check wants.
 pub const SCRATCH_BYTES: usize = 4096;
 
-// An accepted table: its width, and whether it is even in both senses.
+// An accepted table: its width, 0 where there is none, as the definition `width` has it, and whether it is even in both senses.
 #[derive(Clone, Copy)]
 pub struct Accepted {
     pub width: usize,
@@ -122,7 +122,8 @@ fn judge_in(table: &Table, bytes: &mut [u8]) -> Result<Accepted, Rejected>
     }
 }
 
-// The same, of any table and scratch. It leaves the first bytes of a long scratch as it pleases.
+// The same, of any table and scratch, whose numbers and slices come apart, as C lends them to `check`. It leaves the first bytes of a long
+// scratch as it pleases.
 fn answer_of(n: usize, k: usize, quorums: &[u16], scratch: &mut [u8]) -> Result<Accepted, Rejected>
     ensures answered { said result ≡ answer n k quorums.now (length scratch.old) }
     ensures cleaned { cleaned scratch.new ≡ cleaned scratch.old }
