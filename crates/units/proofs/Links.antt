@@ -5,6 +5,7 @@ use mathlib.Core.Bool.{true}
 use prog.Linked.{Tree, World, Holds, in_world}
 use prog.LinkedThreads.{HasT}
 use Rattle.units.proofs.TheLink as link
+use Rattle.units.proofs.UnitsPartialEq.eq.Symbol as eq
 use Rattle.units.proofs.asked_with.Symbol as asked_with
 use Rattle.units.proofs.fits.Symbol as fits
 use Rattle.units.proofs.grant_in.Symbol as grant_in
@@ -24,6 +25,9 @@ Below = link.Below
 module _ (W : World) (here : Holds W "units" table) (below : Below W) where
   pub asked_with-linked : HasT (in_world W) true asked_with.code
   asked_with-linked = link.linked-units::asked_with W here below
+
+  pub eq-linked : HasT (in_world W) true eq.code
+  eq-linked = link.linked-units::UnitsPartialEq::eq W here below
 
   pub fits-linked : HasT (in_world W) true fits.code
   fits-linked = link.linked-units::fitting::fits W here below
