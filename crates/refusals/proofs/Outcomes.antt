@@ -1,8 +1,7 @@
--- Outcomes and their numbers: no refusal has the number 0, so 0 says that there is none.
+-- No refusal has the number 0, so an outcome of that number is none.
 -- Assumes nothing.
 use Rattle.std.proofs.Common.{◌≡◌, arith}
-use Rattle.std.specs.Prelude.{Result, Ok, Err}
-use Rattle.refusals.specs.Numbers.{number_of, refusal_of}
+use Rattle.refusals.specs.Numbers.{number_of}
 use Rattle.refusals.specs.declared.Refusal.{Refusal}
 use Rattle.refusals.specs.declared.Refusal.TheVariants.{BadStations, BadStock, BadLength, BadQuorum, ShortScratch, NoCommonMember, Nested, NoSuchStation, NoSuchQuorum, BadUnits, NotIdle, NotHolding, EmptyLane, NoPlace, BadForm, ShortBuffer, NoCube, TooManyQuorums, OutOfRange, NotCollecting}
 
@@ -28,12 +27,3 @@ some_number NoCube e = omega arith
 some_number TooManyQuorums e = omega arith
 some_number OutOfRange e = omega arith
 some_number NotCollecting e = omega arith
-
-module _ {A : Type 0} where
-  -- what a `?` lets through has no number
-  pub ok_number : (outcome : Result A Refusal) (x : A) → outcome ≡ Ok x → refusal_of outcome ≡ 0
-  ok_number outcome x e = rw e
-
-  -- and what it hands on has the refusal's
-  pub err_number : (outcome : Result A Refusal) (r : Refusal) → outcome ≡ Err r → refusal_of outcome ≡ number_of r
-  err_number outcome r e = rw e
