@@ -13,6 +13,7 @@ use Rattle.lists.specs.Cut.{cut}
 use Rattle.lists.proofs.Broken.{Kept, number_at, BrokenAt, first_later, tests_refuse}
 use Rattle.lists.proofs.Cuts.{drop-cut, drop-cut_end}
 use Rattle.units.specs.declared.Units.{Units}
+use Rattle.units.proofs.Numbers.{request-stored, requested-stored}
 use Rattle.plain.specs.Arbiter.{arrived}
 use Rattle.plain.specs.Lanes.{line_places, passes}
 use Rattle.plain.specs.State.{Arbiter as PlainArbiter}
@@ -90,3 +91,7 @@ module _ (stock : Units) (s : ℕ) (m : Upward) (a : Arbiter) (kept : Kept (take
       let t = told-done most_stations stock s (sent_up m) a fit station d told in
       ap₂ (λ (g : ℕ) (x : PlainArbiter). record { refusal = 0; granted = g; arbiter = x }) (is ∙ ap granted_set t.grants) t.arbiter
       ∙ sym (delivers ∙ delivering-done stock s (sent_up m) before t.room)
+
+-- ---- units that a REQUEST is for, as they are stored
+
+pub ruleset stored_units = (request-stored, requested-stored)

@@ -18,6 +18,7 @@ pub struct Delivery {
 
 impl Delivery {
     // The entries granted, in their order.
+    #[tactic(auto, using(lists::proofs::Slices::fronts))]
     pub fn granted(&self) -> &[Entry]
         ensures { result.now ≡ cut no_entry self.now.grants self.now.line }
     {

@@ -28,6 +28,7 @@ fn all_of(line: &[Entry], n: usize) -> bool
 }
 
 // The line alone is looked at: no other part of an arbiter can lead out of the arrays.
+#[tactic(auto, using(crate::proofs::TellingArbiter::too_many, crate::proofs::TellingArbiter::too_long, crate::proofs::TellingArbiter::by_entries, lists::proofs::Slices::front_cut, std::proofs::lemmas::Grind::common_steps))]
 fn is_servable(a: &Arbiter, n: usize) -> bool
     ensures { result ≡ servable n (arbiter_of n a.now) }
 {
@@ -38,6 +39,7 @@ fn is_servable(a: &Arbiter, n: usize) -> bool
 }
 
 // REQUEST joins the line, unless that is full; RELEASE clears the station's units; WITHDRAW clears them and drops its entries.
+#[tactic(auto, using(crate::proofs::ArrivingMessage::arriving, records::proofs::Good::line_of, records::proofs::Good::granted_of_lem, std::proofs::lemmas::Grind::common_steps), unfolding(plain::specs::Arbiter::arrived))]
 fn arrive(mut a: Arbiter, s: usize, m: Message) -> Result<Arbiter, Refusal>
     requires { (s < most_stations) × (a.len ≤ line_places) }
     ensures refusal { (n : ℕ) → refusal_of result ≡ first_broken (line_full when passes line_places (arrived m s (arbiter_of n a)).line ∷ []) }

@@ -33,6 +33,7 @@ fn granted_set(granted: &[Entry]) -> u16
 }
 
 // The message in the machine's own form; a REQUEST asks for units in 1..k.
+#[tactic(auto, using(crate::proofs::LendingArbiter::stored_units, std::proofs::lemmas::Grind::common_steps))]
 fn sent(m: Upward, stock: Units) -> Result<Message, Refusal>
     requires { asked_with stock ≤ most_units }
     ensures { MatchResult result (λ up. (bad_units stock m ≡ false) × (up ≡ sent_up m)) (λ r. (bad_units stock m ≡ true) × (r ≡ Refusal.BadUnits)) }

@@ -32,6 +32,7 @@ fn grant(granted: &mut [Units; STATIONS], line: &[Entry], n: usize, stock: Units
 }
 
 // The line without its first entries.
+#[tactic(auto, using(lists::proofs::Cuts::cut_moved, std::proofs::lemmas::Grind::common_steps))]
 fn shifted(line: &[Entry; LINE_PLACES], by: usize) -> [Entry; LINE_PLACES]
     requires { by ≤ line_places }
     ensures { (m : ℕ) → m + by ≤ line_places → cut no_entry m result ≡ drop by (cut no_entry (m + by) line.now) }
@@ -44,6 +45,7 @@ fn shifted(line: &[Entry; LINE_PLACES], by: usize) -> [Entry; LINE_PLACES]
 }
 
 // The arbiter after its line was served, and the entries that were granted.
+#[tactic(auto, using(lists::proofs::Slices::fronts, records::proofs::Good::line_of, std::proofs::lemmas::Grind::common_steps), unfolding(records::specs::View::arbiter_of))]
 pub(crate) fn serve(a: Arbiter, n: usize, stock: Units) -> Delivery
     requires { Serves n a }
     ensures arbiter { arbiter_of n result.arbiter ≡ (served n stock (arbiter_of n a)).arbiter }

@@ -24,3 +24,6 @@ every_in_slice n none f d test xs h =
     every_shown n none f d test xs
     ∙ sym (all-cut d (λ x. test (f x)) n xs)
     ∙ ap (all (λ x. test (f x))) (cut-take d n xs h)
+
+-- an array with a length beside it and its slice, each as the other
+pub ruleset fronts = (cut-take, front_cut)

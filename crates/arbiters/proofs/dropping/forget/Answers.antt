@@ -1,7 +1,6 @@
 -- `arbiters::dropping::forget` meets its contract. What was kept before the entry in hand, and what is kept of the rest; the grant is cleared.
 -- Assumes nothing.
-use Rattle.std.proofs.Common.{refl, sym, ap, ◌∙◌, take, arith}
-use lib.ListN.{set}
+use Rattle.std.proofs.Common.{sym, ap, ◌∙◌, take, arith}
 use Rattle.lists.proofs.Cuts.{cut-take}
 use Rattle.plain.specs.Arbiter.{without}
 use Rattle.records.specs.View.{no_entry}
@@ -9,14 +8,6 @@ use Rattle.records.proofs.Good.{line_of, granted_of_lem}
 use Rattle.arbiters.proofs.ArrivingMessage.{withdraw-drops}
 use Rattle.arbiters.proofs.DroppingEntries.{drops_end}
 use Rattle.arbiters.proofs.dropping.forget.Goals as goal
-
-pub loop-e-init : goal.loop-e-init
-loop-e-init c = record {
-  fewer = omega arith;
-  places = line_of c.args.a _ c.well_formed.0;
-  granted = ap (set c.args.a.granted c.args.s) c.no_units.ensures;
-  kept = refl;
-}
 
 pub returns : goal.returns
 returns c =
