@@ -7,7 +7,8 @@ ghost use Rattle.records.specs.View.{no_entry};
 use plain::Entry;
 use records::{Arbiter, LINE_PLACES};
 
-// What a message makes of an arbiter. Granted are the first entries of the line, which stays in an array of the machine's own: there is no heap.
+// What a message makes of an arbiter. Granted are the first entries of the line that the message has joined. They stand in an array with a length
+// beside it, and `granted` is their slice: there is no heap for a Vec, and nobody else has that line.
 #[derive(Clone, Copy)]
 pub struct Delivery {
     pub arbiter: Arbiter,

@@ -39,6 +39,7 @@ fn is_servable(a: &Arbiter, n: usize) -> bool
 }
 
 // REQUEST joins the line, unless that is full; RELEASE clears the station's units; WITHDRAW clears them and drops its entries.
+// That the line fits its array is asked here, of `forget` and of `serve`, and is no type's: C fills an `Arbiter` with anything.
 #[tactic(auto, using(crate::proofs::ArrivingMessage::arriving, records::proofs::Good::line_of, records::proofs::Good::granted_of_lem, std::proofs::lemmas::Grind::common_steps), unfolding(plain::specs::Arbiter::arrived))]
 fn arrive(mut a: Arbiter, s: usize, m: Message) -> Result<Arbiter, Refusal>
     requires { (s < most_stations) × (a.len ≤ line_places) }

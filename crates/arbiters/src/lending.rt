@@ -1,4 +1,4 @@
-// What the call for one message makes of a station's own arbiter record, by value.
+// What the call for one message makes of a station's own arbiter record, which it is lent.
 ghost use Rattle.std.specs.Prelude.{true, false, ◌≡◌, ◌≤◌, MatchResult};
 ghost use Rattle.quorum.specs.Limits.{most_stations, most_units};
 ghost use Rattle.records.specs.View.{arbiter_of};
@@ -51,8 +51,8 @@ fn sent(m: Upward, stock: Units) -> Result<Message, Refusal>
     }
 }
 
-// A message of a station, whose stock and number any caller may give: the arbiter's part of Up on its record, by value. A refusal answers the
-// empty set and changes nothing.
+// A message of a station, whose stock and number any caller may give: the arbiter's part of Up on its record. A refusal leaves the record as it
+// was, since it is only lent.
 pub fn settle(a: &Arbiter, i: Incoming) -> Result<Settled, Refusal>
     ensures { lent_of a.now result ≡ lending (stock_of_rule i.stock) i.station i.message (arbiter_of most_stations a.now) }
 {

@@ -1,4 +1,4 @@
-// An arbiter's part of the machine: what one message makes of its record, by value.
+// An arbiter's part of the machine: what one message makes of its record.
 #![tactic(auto)]
 
 mod answers;
@@ -20,7 +20,7 @@ pub enum Upward {
 }
 
 // A message that reaches a station's own arbiter: the stock, the station that sent it, and the message.
-#[derive(Clone, Copy)]
+#[derive(Clone, Copy, Debug, PartialEq, Eq)]
 pub struct Incoming {
     pub stock: usize,
     pub station: usize,

@@ -14,6 +14,7 @@ use records::{Arbiter, LINE_PLACES, STATIONS};
 use units::Units;
 
 // The first entries of the line that fit, one after the other, are granted: so many.
+// n and stock are no struct: `deliver` promises for any two, and `units::fits` takes them apart.
 #[tactic(auto, using(crate::proofs::ServingLine::serve_more, crate::proofs::ServingLine::serve_stop, crate::proofs::ServingLine::serve_end, std::proofs::lemmas::Grind::common_steps))]
 fn grant(granted: &mut [Units; STATIONS], line: &[Entry], n: usize, stock: Units) -> usize
     requires few { n ≤ most_stations }
