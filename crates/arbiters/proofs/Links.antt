@@ -5,6 +5,7 @@ use mathlib.Core.Bool.{true}
 use prog.Linked.{Tree, World, Holds, in_world}
 use prog.LinkedThreads.{HasT}
 use Rattle.arbiters.proofs.TheLink as link
+use Rattle.arbiters.proofs.answers.Delivery.granted.Symbol as granted
 use Rattle.arbiters.proofs.deliver.Symbol as deliver
 
 abbrev pub table : Tree
@@ -17,3 +18,6 @@ Below = link.Below
 module _ (W : World) (here : Holds W "arbiters" table) (below : Below W) where
   pub deliver-linked : HasT (in_world W) true deliver.code
   deliver-linked = link.linked-arbiters::delivery::deliver W here below
+
+  pub granted-linked : HasT (in_world W) true granted.code
+  granted-linked = link.linked-arbiters::answers::Delivery::granted W here below
