@@ -47,3 +47,6 @@ module _ (a k : ℕ) where
   pub cube_made : (power : Option ℕ) → up_to most_stations (unwrap_or power 0) ≡ true → SomeIff power (cube_stations a k < 2 ^ 64) (cube_stations a k)
       → unwrap_or power 0 ≡ cube_stations a k
   cube_made power e h = (worked_out power h).1 e
+
+-- what the test of the stations says, of a power that fits or does not
+pub ruleset stations_tested = (cube_refused, cube_allowed, cube_made)

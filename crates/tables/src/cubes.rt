@@ -24,7 +24,7 @@ impl Cube {
     ghost use Rattle.tables.specs.Cube.{agree, cube_quorum, cube_table, cube_refusal};
 
     // The cube of a and k, whose table fits a buffer of so many entries.
-    #[tactic(auto, unfolding(crate::specs::Made::no_room, crate::specs::Cube::cube_refusal), using(crate::proofs::CubeArbiter::cube_length, crate::proofs::CubeStations::cube_refused, crate::proofs::CubeStations::cube_allowed, crate::proofs::CubeStations::cube_made))]
+    #[tactic(auto, unfolding(crate::specs::Made::no_room, crate::specs::Cube::cube_refusal), using(crate::proofs::CubeArbiter::cube_length, crate::proofs::CubeStations::stations_tested))]
     pub(crate) fn fitting(a: usize, k: usize, room: usize) -> Result<Cube, Refusal>
         ensures refused { refusal_of result ≡ cube_refusal a k room }
         ensures made { IfOk result (λ cube. (cube.a ≡ a) × (cube.k ≡ k)) }
