@@ -12,6 +12,7 @@ pub use delivery::deliver;
 pub use lending::settle;
 
 // What a station sends up to an arbiter.
+// No twin of `Message`: the units are still a caller's number, and what comes down is none of it.
 #[derive(Clone, Copy, Debug, PartialEq, Eq)]
 pub enum Upward {
     Request(usize),
