@@ -1,23 +1,19 @@
 -- The call on a lent arbiter by its refusals, in their order, and what it answers otherwise.
 -- Assumes nothing.
 use mathlib.Core.Bool.{true, false}
-use mathlib.Core.List.{List}
 use mathlib.Core.Path.{◌≡◌, sym, ap, ap₂, ◌∙◌}
 use Rattle.std.specs.Prelude.{Ok, Err}
 use native.Mathlib.Omega.{arith}
-use Prim.Native.Nat.{ℕ, ◌+◌, ◌≤◌, ◌<◌}
-use lib.Dec.{ltb}
-use lib.ListN.{get_or, take, drop}
-use borrow.Author.Tests.{eq-eqb, ne_eqb}
+use Prim.Native.Nat.{ℕ, ◌<◌}
+use lib.ListN.{take, drop}
+use borrow.Author.Tests.{eq-eqb, ne_eqb, not-false}
 use Rattle.lists.specs.Cut.{cut}
-use Rattle.lists.proofs.Broken.{Kept, number_at, BrokenAt, first_later, tests_refuse}
-use Rattle.lists.proofs.Cuts.{drop-cut, drop-cut_end}
+use Rattle.lists.proofs.Broken.{Kept, first_later}
 use Rattle.units.specs.declared.Units.{Units}
-use Rattle.units.proofs.Numbers.{request-stored, requested-stored}
+use Rattle.units.proofs.Numbers.{asked-stored, stock-stored, request-stored, requested-stored}
 use Rattle.plain.specs.Arbiter.{arrived}
 use Rattle.plain.specs.Lanes.{line_places, passes}
 use Rattle.plain.specs.State.{Arbiter as PlainArbiter}
-use Rattle.plain.specs.declared.Entry.{Entry}
 use Rattle.plain.specs.declared.Message.{Message}
 use Rattle.quorum.specs.Limits.{most_stations}
 use Rattle.refusals.specs.declared.Refusal.{Refusal}
@@ -25,32 +21,15 @@ use Rattle.plain.specs.InRange.{arbiter_in}
 use Rattle.records.specs.View.{no_entry, arbiter_of}
 use Rattle.records.specs.declared.Arbiter.{Arbiter}
 use Rattle.arbiters.specs.Inner.Ready.{delivering}
-use Rattle.arbiters.specs.Lent.{sent_up, is_granted, granted_set, turned_away, lent_as, lent_by, lent_tests, lending, lent_of}
+use Rattle.arbiters.specs.Lent.{sent_up, granted_set, turned_away, lent_as, lent_by, lent_tests, lending, lent_of}
 use Rattle.arbiters.specs.Telling.{servable, line_full, telling, told_of}
 use Rattle.arbiters.specs.declared.answers.Delivery.{Delivery}
 use Rattle.arbiters.proofs.TellingArbiter.{in_range-servable, told_full, told_14, told-done}
 use Rattle.arbiters.specs.declared.Upward.{Upward}
 
--- ---- who is granted, from entry i on
-
-module _ (line : List Entry) (grants t i : ℕ) where
-  pub granted-here : i < grants → (get_or line i no_entry).station ≡ t → is_granted (drop i (cut no_entry grants line)) t ≡ true
-  granted-here h e = rw (drop-cut no_entry grants line i h, eq-eqb (get_or line i no_entry).station t e)
-
-  pub granted_later : i < grants → ((get_or line i no_entry).station ≡ t → ⊥) → is_granted (drop i (cut no_entry grants line)) t ≡ is_granted (drop (i + 1) (cut no_entry grants line)) t
-  granted_later h d = rw (drop-cut no_entry grants line i h, ne_eqb (get_or line i no_entry).station t d)
-
-  pub granted-none : grants ≤ i → is_granted (drop i (cut no_entry grants line)) t ≡ false
-  granted-none h = rw (drop-cut_end no_entry grants line i h)
-
 -- ---- by its tests
 
--- the test at place i is broken, and none before it
 module _ (stock : Units) (s : ℕ) (m : Upward) (a : PlainArbiter) where
-  pub lending-refused : (i : ℕ) → BrokenAt i (lent_tests stock s m a) → ltb 0 (number_at i (lent_tests stock s m a)) ≡ true → lending stock s m a ≡ turned_away a (number_at i (lent_tests stock s m a))
-  unfolding lending lent_by
-  lending-refused i b n = tests_refuse (lent_as stock s (sent_up m) a) (turned_away a) i (lent_tests stock s m a) b n
-
   -- 2, 19, 8 and 10 are kept
   pub lending_delivers : Kept (take 4 (lent_tests stock s m a)) → lending stock s m a ≡ delivering stock s (sent_up m) a
   unfolding lending
@@ -95,3 +74,7 @@ module _ (stock : Units) (s : ℕ) (m : Upward) (a : Arbiter) (kept : Kept (take
 -- ---- units that a REQUEST is for, as they are stored
 
 pub ruleset stored_units = (request-stored, requested-stored)
+
+-- ---- for the function that settles a message
+
+pub ruleset settle_steps = (asked-stored, stock-stored, not-false, lent_full, lent_done)

@@ -1,6 +1,6 @@
 -- An arbiter that is told a message: whether its line can be served, the refusals in their order, and what a caller learns of the answer.
 -- Assumes nothing.
-use mathlib.Core.Bool.{true, false, and-false}
+use mathlib.Core.Bool.{Bool, true, false, cond, and-false}
 use mathlib.Core.List.{List, [], ◌∷◌}
 use mathlib.Core.Logic.{⊎_elim}
 use mathlib.Core.Path.{◌≡◌, refl, sym, ap, ◌∙◌}
@@ -184,3 +184,11 @@ module _ (n : ℕ) (stock : Units) (s : ℕ) (m : Message) (a : Arbiter) (fit : 
               let same = sym (get_or-cut no_entry d.grants d.line i h) ∙ ap (λ (l : List Entry). get_or l i no_entry) grants ∙ sym first ∙ ap (λ (l : List Entry). get_or l i no_entry) splits in
               rw same (entry_of n joined fits i (omega (arith, long, many)));
         }
+
+-- ---- for the function that is told
+
+pub has_room : (b : Bool) → 0 ≡ cond b line_full 0 → b ≡ false
+has_room true e = absurd (omega arith)
+has_room false e = refl
+
+pub ruleset delivery_steps = (servable_serves, arrived-servable, telling_full, telling-done, has_room, some_number)

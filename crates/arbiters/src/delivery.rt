@@ -66,6 +66,7 @@ fn arrive(mut a: Arbiter, s: usize, m: Message) -> Result<Arbiter, Refusal>
 }
 
 // The message m of station s reaches an arbiter of n stations with this stock. Any caller may give any of them.
+#[tactic(auto, using(crate::proofs::TellingArbiter::delivery_steps, std::proofs::lemmas::Grind::common_steps), unfolding(crate::specs::Telling::told_of, crate::specs::Telling::telling))]
 pub fn deliver(
     a: &Arbiter,
     n: usize,

@@ -53,6 +53,7 @@ fn sent(m: Upward, stock: Units) -> Result<Message, Refusal>
 
 // A message of a station, whose stock and number any caller may give: the arbiter's part of Up on its record. A refusal leaves the record as it
 // was, since it is only lent.
+#[tactic(auto, using(crate::proofs::LendingArbiter::settle_steps, std::proofs::lemmas::Grind::common_steps), unfolding(crate::specs::Lent::lent_of, crate::specs::Lent::lending, crate::specs::Lent::lent_by))]
 pub fn settle(a: &Arbiter, i: Incoming) -> Result<Settled, Refusal>
     ensures { lent_of a.now result ≡ lending (stock_of_rule i.stock) i.station i.message (arbiter_of most_stations a.now) }
 {
