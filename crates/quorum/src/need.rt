@@ -70,8 +70,7 @@ impl Table<'_> {
         }
     }
 
-    // Fills the byte of every set of its stations. Not inlined, so that its inner loop, which takes most of the time, is short.
-    #[inline(never)]
+    // Fills the byte of every set of its stations.
     pub(crate) fn fill(&self, bytes: &mut Bytes)
         ensures { Needs self.now.stations self.now.quorums.now bytes.new }
     {
