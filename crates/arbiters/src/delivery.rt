@@ -15,33 +15,40 @@ use records::{Arbiter, LINE_PLACES, STATIONS};
 use refusals::Refusal;
 use units::Units;
 
-fn is_of(e: Entry, n: usize) -> bool
+pub(crate) fn is_of(e: Entry, n: usize) -> bool
     ensures { result ≡ is_of n e }
 {
     (e.station as usize) < n
 }
 
-fn all_of(line: &[Entry], n: usize) -> bool
+pub(crate) fn all_of(line: &[Entry], n: usize) -> bool
     ensures { result ≡ all (is_of n) line.now }
 {
-    line.iter().all(|e| is_of(*e, n))
+    // no `all`: the program that `program-has` of `claim` is of has no function of the library
+    for e in line {
+        if !is_of(*e, n) {
+            return false;
+        }
+    }
+    true
 }
 
 // The line alone is looked at: no other part of an arbiter can lead out of the arrays.
 #[tactic(auto, using(crate::proofs::TellingArbiter::too_many, crate::proofs::TellingArbiter::too_long, crate::proofs::TellingArbiter::by_entries, lists::proofs::Slices::front_cut, std::proofs::lemmas::Grind::common_steps))]
-fn is_servable(a: &Arbiter, n: usize) -> bool
+pub(crate) fn is_servable(a: &Arbiter, n: usize) -> bool
     ensures { result ≡ servable n (arbiter_of n a.now) }
 {
-    let Some(line) = a.line.get(..a.len as usize) else {
+    let len = a.len as usize;
+    if LINE_PLACES < len {
         return false;
-    };
-    n <= STATIONS && all_of(line, n)
+    }
+    n <= STATIONS && all_of(&a.line[..len], n)
 }
 
 // REQUEST joins the line, unless that is full; RELEASE clears the station's units; WITHDRAW clears them and drops its entries.
 // That the line fits its array is asked here, of `forget` and of `serve`, and is no type's: C fills an `Arbiter` with anything.
 #[tactic(auto, using(crate::proofs::ArrivingMessage::arriving, records::proofs::Good::line_of, records::proofs::Good::granted_of_lem, std::proofs::lemmas::Grind::common_steps), unfolding(plain::specs::Arbiter::arrived))]
-fn arrive(mut a: Arbiter, s: usize, m: Message) -> Result<Arbiter, Refusal>
+pub(crate) fn arrive(mut a: Arbiter, s: usize, m: Message) -> Result<Arbiter, Refusal>
     requires { (s < most_stations) × (a.len ≤ line_places) }
     ensures refusal { (n : ℕ) → refusal_of result ≡ first_broken (line_full when passes line_places (arrived m s (arbiter_of n a)).line ∷ []) }
     ensures arbiter { (n : ℕ) → s < n → IfOk result (λ next. arbiter_of n next ≡ arrived m s (arbiter_of n a)) }
@@ -82,6 +89,10 @@ pub fn deliver(
     if n <= s {
         return Err(Refusal::NoSuchStation);
     }
-    let joined = arrive(*a, s, m)?;
+    // no `?`: the program that `program-has` of `claim` is of has no function of the library
+    let joined = match arrive(*a, s, m) {
+        Ok(joined) => joined,
+        Err(refusal) => return Err(refusal),
+    };
     Ok(service::serve(joined, n, stock))
 }

@@ -16,7 +16,7 @@ use units::Units;
 // The first entries of the line that fit, one after the other, are granted: so many.
 // n and stock are no struct: `deliver` promises for any two, and `units::fits` takes them apart.
 #[tactic(auto, using(crate::proofs::ServingLine::serve_more, crate::proofs::ServingLine::serve_stop, crate::proofs::ServingLine::serve_end, std::proofs::lemmas::Grind::common_steps))]
-fn grant(granted: &mut [Units; STATIONS], line: &[Entry], n: usize, stock: Units) -> usize
+pub(crate) fn grant(granted: &mut [Units; STATIONS], line: &[Entry], n: usize, stock: Units) -> usize
     requires few { n ≤ most_stations }
     requires named { Named n (length line.now) line.now }
     ensures within { result ≤ length line.now }
@@ -34,7 +34,7 @@ fn grant(granted: &mut [Units; STATIONS], line: &[Entry], n: usize, stock: Units
 
 // The line without its first entries.
 #[tactic(auto, using(lists::proofs::Cuts::cut_moved, std::proofs::lemmas::Grind::common_steps))]
-fn shifted(line: &[Entry; LINE_PLACES], by: usize) -> [Entry; LINE_PLACES]
+pub(crate) fn shifted(line: &[Entry; LINE_PLACES], by: usize) -> [Entry; LINE_PLACES]
     requires { by ≤ line_places }
     ensures { (m : ℕ) → m + by ≤ line_places → cut no_entry m result ≡ drop by (cut no_entry (m + by) line.now) }
 {

@@ -5,8 +5,7 @@ use mathlib.Core.Logic.{⊎_elim}
 use mathlib.Core.Path.{◌≡◌, sym, ap, ap₂, ◌∙◌}
 use Prim.Native.Nat.{ℕ, ◌<◌}
 use native.Mathlib.Omega.{arith}
-use borrow.Author.Rules.{rules}
-use Rattle.std.specs.Prelude.{Option, None, Some, IsSome}
+use Rattle.std.specs.Prelude.{None}
 use lib.ListN.{length, get_or, take, drop}
 use Rattle.lists.specs.At.{at2}
 use Rattle.lists.proofs.Broken.{first_later}
@@ -99,6 +98,5 @@ module _ (r : Record) (s q : ℕ) (h : Units) (passed : Requests (view r) s q h)
       ∙ ap₂ (ask_answer (view r) s q h) (lowest_is ∙ member) (ap₂ members_above (quorum-at r q exists) (lowest_is ∙ member) ∙ sym (next-above set 0 next found))
 
   -- there is a lowest member
-  pub has-next : (found : Option NextMember) → said found ≡ next_from (get_or r.table q 0) 0 → IsSome found
-  has-next None e = absurd (omega (arith, next-member (get_or r.table q 0) 0 (said None) e, lowest-station, few r passed.range))
-  has-next (Some next) e = search rules
+  pub some-next : said None ≡ next_from (get_or r.table q 0) 0 → ⊥
+  some-next e = absurd (omega (arith, next-member (get_or r.table q 0) 0 (said None) e, lowest-station, few r passed.range))

@@ -36,7 +36,10 @@ pub(crate) fn ask(r: &mut Record, s: usize, wish: Wish) -> Result<Returned, Refu
         above,
     } = wish;
     let to = member as usize;
-    lanes::put_between(&mut r.up, s, to, Message::Request(units), UP_PLACES)?;
+    match lanes::put_between(&mut r.up, s, to, Message::Request(units), UP_PLACES) {
+        Ok(()) => {}
+        Err(refusal) => return Err(refusal),
+    }
     r.stations[s].phase = Phase::Collecting {
         quorum,
         units,
@@ -59,7 +62,10 @@ pub(crate) fn request(r: &mut Record, s: usize, q: usize, h: usize) -> Result<Re
     ensures answer { answered_by result (view r.new) ≡ request_of (view r.old) s q (units_of_rule h) }
     ensures refused { OnErr result (r.new ≡ r.old) }
 {
-    taking::tested(r, s)?;
+    match taking::tested(r, s) {
+        Ok(()) => {}
+        Err(refusal) => return Err(refusal),
+    }
     if r.quorums as usize <= q {
         return Err(Refusal::NoSuchQuorum);
     }
@@ -70,7 +76,9 @@ pub(crate) fn request(r: &mut Record, s: usize, q: usize, h: usize) -> Result<Re
     if !is_idle(r.stations[s].phase) {
         return Err(Refusal::NotIdle);
     }
-    let next = stations::lowest_from(r.table[q], 0).unwrap(); // no quorum is empty
+    let Some(next) = stations::lowest_from(r.table[q], 0) else {
+        return Err(Refusal::BadQuorum); // it never comes here: no quorum is empty
+    };
     let wish = Wish {
         quorum: q as u8,
         units,

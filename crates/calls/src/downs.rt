@@ -72,9 +72,13 @@ fn told_grant(r: &mut Record, s: usize, j: usize) -> Result<Returned, Refusal>
     let table = &r.table[..r.quorums as usize];
     match granted(r.stations[s].phase, r.n as usize, j, table) {
         Taking::Asks(wish) => {
-            let returned = asking::ask(r, s, wish)?;
-            lanes::take_between(&mut r.down, s, j);
-            Ok(returned)
+            match asking::ask(r, s, wish) {
+                Ok(returned) => {
+                    lanes::take_between(&mut r.down, s, j);
+                    Ok(returned)
+                }
+                Err(refusal) => Err(refusal),
+            }
         }
         Taking::Holds { quorum, units } => {
             lanes::take_between(&mut r.down, s, j);
@@ -135,6 +139,8 @@ pub(crate) fn deliver(r: &mut Record, s: usize, j: usize) -> Result<Returned, Re
     if !records::in_range(r) {
         return Err(Refusal::OutOfRange);
     }
-    let message = taking::oldest(&r.down, r.n as usize, s, j)?;
-    receive(r, s, j, message)
+    match taking::oldest(&r.down, r.n as usize, s, j) {
+        Ok(message) => receive(r, s, j, message),
+        Err(refusal) => Err(refusal),
+    }
 }

@@ -1,6 +1,8 @@
 // The five calls of a station on a record by value: each tests its refusals in their order, then does what is asked.
 #![tactic(auto)]
 
+// No `?`, no `unwrap` and no chain in this crate: the program that `program-has` of `claim` is of has no function of the library.
+
 ghost use Rattle.std.specs.Prelude.{◌≡◌, OnErr};
 ghost use Rattle.plain.specs.Answer.{nothing as nothing_rule};
 ghost use Rattle.plain.specs.Down.{down as down_of};

@@ -24,7 +24,10 @@ pub(crate) fn release_row(w: &mut Row, n: usize, set: u16) -> Result<(), Refusal
 {
     for j in 0..n {
         if stations::has(set, j) {
-            lanes::put_to(w, j, Message::Release, UP_PLACES)?;
+            match lanes::put_to(w, j, Message::Release, UP_PLACES) {
+                Ok(()) => {}
+                Err(refusal) => return Err(refusal),
+            }
         }
     }
     Ok(())
@@ -44,12 +47,18 @@ pub(crate) fn give_back(r: &mut Record, s: usize) -> Result<Returned, Refusal>
     ensures answer { answered_by result (view r.new) ≡ release (view r.old) s }
     ensures refused { OnErr result (r.new ≡ r.old) }
 {
-    taking::tested(r, s)?;
+    match taking::tested(r, s) {
+        Ok(()) => {}
+        Err(refusal) => return Err(refusal),
+    }
     let Phase::Holding { quorum, units } = r.stations[s].phase else {
         return Err(Refusal::NotHolding);
     };
     let mut row = r.up.rows[s];
-    release_row(&mut row, r.n as usize, r.table[quorum as usize])?;
+    match release_row(&mut row, r.n as usize, r.table[quorum as usize]) {
+        Ok(()) => {}
+        Err(refusal) => return Err(refusal),
+    }
     send_row(r, s, row, Phase::Idle);
     Ok(Returned {
         left: units,

@@ -33,11 +33,17 @@ pub(crate) fn send(
     ensures lanes { OnOk result (lanes_of n down.new ≡ granting (replying m (lanes_of n down.old) s j) j grants.now) }
 {
     if is_withdrawal(m) {
-        lanes::put_between(down, s, j, Message::Gone, DOWN_PLACES)?;
+        match lanes::put_between(down, s, j, Message::Gone, DOWN_PLACES) {
+            Ok(()) => {}
+            Err(refusal) => return Err(refusal),
+        }
     }
     for entry in grants {
         let t = entry.station as usize;
-        lanes::put_between(down, t, j, Message::Grant, DOWN_PLACES)?;
+        match lanes::put_between(down, t, j, Message::Grant, DOWN_PLACES) {
+            Ok(()) => {}
+            Err(refusal) => return Err(refusal),
+        }
     }
     Ok(())
 }

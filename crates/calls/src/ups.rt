@@ -17,9 +17,15 @@ fn arrive(r: &mut Record, s: usize, j: usize, m: Message) -> Result<Returned, Re
     ensures refused { OnErr result (r.new ≡ r.old) }
 {
     let n = r.n as usize;
-    let delivery = arbiters::deliver(&r.arbiters[j], n, r.stock, s, m)?;
+    let delivery = match arbiters::deliver(&r.arbiters[j], n, r.stock, s, m) {
+        Ok(delivery) => delivery,
+        Err(refusal) => return Err(refusal),
+    };
     let mut down = r.down;
-    sending::send(&mut down, n, s, j, m, delivery.granted())?;
+    match sending::send(&mut down, n, s, j, m, delivery.granted()) {
+        Ok(()) => {}
+        Err(refusal) => return Err(refusal),
+    }
     lanes::take_between(&mut r.up, s, j);
     r.arbiters[j] = delivery.arbiter;
     r.down = down;
@@ -34,6 +40,8 @@ pub(crate) fn deliver(r: &mut Record, s: usize, j: usize) -> Result<Returned, Re
     if !records::in_range(r) {
         return Err(Refusal::OutOfRange);
     }
-    let message = taking::oldest(&r.up, r.n as usize, s, j)?;
-    arrive(r, s, j, message)
+    match taking::oldest(&r.up, r.n as usize, s, j) {
+        Ok(message) => arrive(r, s, j, message),
+        Err(refusal) => Err(refusal),
+    }
 }

@@ -23,8 +23,10 @@ fn withdraw_row(w: &mut Row, n: usize, set: u16, member: usize) -> Result<(), Re
     ensures row { OnOk result (row_of n w.new ≡ withdrawing set member (row_of n w.old)) }
 {
     let granted = stations::common(set, stations::everyone(member));
-    releases::release_row(w, n, granted)?;
-    lanes::put_to(w, member, Message::Withdraw, UP_PLACES)
+    match releases::release_row(w, n, granted) {
+        Ok(()) => lanes::put_to(w, member, Message::Withdraw, UP_PLACES),
+        Err(refusal) => Err(refusal),
+    }
 }
 
 // The station is withdrawing.
@@ -32,17 +34,23 @@ pub(crate) fn give_up(r: &mut Record, s: usize) -> Result<Returned, Refusal>
     ensures answer { answered_by result (view r.new) ≡ withdraw (view r.old) s }
     ensures refused { OnErr result (r.new ≡ r.old) }
 {
-    taking::tested(r, s)?;
+    match taking::tested(r, s) {
+        Ok(()) => {}
+        Err(refusal) => return Err(refusal),
+    }
     let Phase::Collecting { quorum, member, .. } = r.stations[s].phase else {
         return Err(Refusal::NotCollecting);
     };
     let mut row = r.up.rows[s];
-    withdraw_row(
+    match withdraw_row(
         &mut row,
         r.n as usize,
         r.table[quorum as usize],
         member as usize,
-    )?;
+    ) {
+        Ok(()) => {}
+        Err(refusal) => return Err(refusal),
+    }
     releases::send_row(r, s, row, Phase::Withdrawing);
     Ok(crate::nothing())
 }

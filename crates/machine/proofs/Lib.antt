@@ -4,3 +4,5 @@ pub mod GoingOn
 pub mod PerformingList
 pub mod AnswerWords
 pub mod ReturningCall
+pub mod Program
+pub mod StartingRecord

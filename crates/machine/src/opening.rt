@@ -25,7 +25,7 @@ fn copied(quorums: &[u16]) -> [u16; quorum::MOST_QUORUMS]
 }
 
 // Lanes with nothing in them.
-fn empty_lanes() -> Lanes
+pub(crate) fn empty_lanes() -> Lanes
     ensures { (n : ℕ) → lanes_of n result ≡ (λ s j. []) }
 {
     let slot = Slot {

@@ -4,8 +4,8 @@ ghost use Rattle.lists.specs.Search.{all};
 ghost use Rattle.units.specs.Units.{grant_in as grant_in_rule};
 ghost use Rattle.records.specs.View.{arbiter_of};
 
-use crate::Arbiter;
 use crate::bounds::Bounds;
+use crate::{Arbiter, LINE_PLACES};
 use plain::Entry;
 use units::Units;
 
@@ -15,9 +15,12 @@ impl Bounds {
     fn grants_in(self, granted: &[Units]) -> bool
         ensures { result ≡ all (grant_in_rule self.stock) granted.now }
     {
-        granted
-            .iter()
-            .all(|units| units::grant_in(self.stock, *units))
+        for units in granted {
+            if !units::grant_in(self.stock, *units) {
+                return false;
+            }
+        }
+        true
     }
 
     #[tactic(auto, unfolding(plain::specs::InRange::entry_in))]
@@ -30,22 +33,33 @@ impl Bounds {
     fn line_in(self, line: &[Entry]) -> bool
         ensures { result ≡ all (entry_in self.stations self.stock) line.now }
     {
-        line.iter().all(|e| self.entry_in(e))
+        for e in line {
+            if !self.entry_in(e) {
+                return false;
+            }
+        }
+        true
     }
 
     #[tactic(auto, using(crate::proofs::Ranging::arbiter_long, crate::proofs::Ranging::arbiter_kept, lists::proofs::Slices::front_cut, std::proofs::lemmas::Grind::common_steps))]
     pub fn arbiter_in(self, a: &Arbiter) -> bool
         ensures { result ≡ arbiter_in self.stations self.stock (arbiter_of self.stations a.now) }
     {
-        let Some(line) = a.line.get(..a.len as usize) else {
+        let len = a.len as usize;
+        if LINE_PLACES < len {
             return false;
-        };
-        self.grants_in(&a.granted[..self.stations]) && self.line_in(line)
+        }
+        self.grants_in(&a.granted[..self.stations]) && self.line_in(&a.line[..len])
     }
 
     pub fn arbiters_in(self, arbiters: &[Arbiter]) -> bool
         ensures { result ≡ all (λ a. arbiter_in self.stations self.stock (arbiter_of self.stations a)) arbiters.now }
     {
-        arbiters.iter().all(|a| self.arbiter_in(a))
+        for a in arbiters {
+            if !self.arbiter_in(a) {
+                return false;
+            }
+        }
+        true
     }
 }

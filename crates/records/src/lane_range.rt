@@ -9,7 +9,7 @@ use plain::Message;
 use units::Units;
 
 // Where the messages of a lane go: up from a station, where a REQUEST is for units of this stock, or down to one.
-#[derive(Clone, Copy, Debug, PartialEq, Eq)]
+#[derive(Clone, Copy)]
 pub(crate) enum Direction {
     Up(Units),
     Down,
@@ -44,7 +44,12 @@ impl Direction {
     fn slots_in(self, slots: &[Slot]) -> bool
         ensures { result ≡ all (λ s. goes self (message_of s)) slots.now }
     {
-        slots.iter().all(|slot| self.goes(slot.message))
+        for slot in slots {
+            if !self.goes(slot.message) {
+                return false;
+            }
+        }
+        true
     }
 
     // Whether a lane keeps its limit and has only such messages.
@@ -59,7 +64,12 @@ impl Direction {
     fn lanes_in(self, lanes: &[Lane]) -> bool
         ensures { result ≡ all (λ l. lane_in self (lane_of l)) lanes.now }
     {
-        lanes.iter().all(|l| self.lane_in(l))
+        for l in lanes {
+            if !self.lane_in(l) {
+                return false;
+            }
+        }
+        true
     }
 
     #[tactic(auto, using(crate::proofs::Ranging::row_kept))]
@@ -72,6 +82,11 @@ impl Direction {
     pub fn rows_in(self, b: Bounds, rows: &[Row]) -> bool
         ensures { result ≡ all (λ w. row_in self b.stations (row_of b.stations w)) rows.now }
     {
-        rows.iter().all(|w| self.row_in(b, w))
+        for w in rows {
+            if !self.row_in(b, w) {
+                return false;
+            }
+        }
+        true
     }
 }

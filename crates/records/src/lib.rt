@@ -2,6 +2,8 @@
 // an array beyond its length, and what belongs to stations from n on, are no part of it.
 #![tactic(auto)]
 
+// No `all`, `get` or `?` in this crate: the program that `program-has` of `claim` is of has no function of the library.
+
 ghost use Rattle.std.specs.Prelude.{◌&&◌, ◌≡◌, leb};
 ghost use Rattle.plain.specs.InRange.{in_range, arbiter_in as arbiter_in_rule};
 ghost use Rattle.quorum.specs.Limits.{most_stations};

@@ -10,8 +10,14 @@ use crate::Record;
 pub(crate) fn table_kept(r: &Record) -> Option<&[u16]>
     ensures { MatchOption result (broken_limit_rule r.now.n (asked_with_rule r.now.stock) (table_of r.now) ≢ 0) (λ table. (table.now ≡ table_of r.now) × (broken_limit_rule r.now.n (asked_with_rule r.now.stock) (table_of r.now) ≡ 0)) }
 {
-    let table = r.table.get(..r.quorums as usize)?;
+    let quorums = r.quorums as usize;
+    if quorum::MOST_QUORUMS < quorums {
+        return None;
+    }
+    let table = &r.table[..quorums];
     let k = units::asked_with(r.stock);
-    quorum::limits::kept(r.n as usize, k, table).ok()?;
-    Some(table)
+    match quorum::limits::kept(r.n as usize, k, table) {
+        Ok(()) => Some(table),
+        Err(_) => None,
+    }
 }

@@ -37,6 +37,11 @@ impl Bounds {
     pub fn stations_in(self, stations: &[Station], table: &[u16]) -> bool
         ensures { result ≡ all (λ s. phase_in self.stations self.stock table.now (phase_of s)) stations.now }
     {
-        stations.iter().all(|s| self.phase_in(s.phase, table))
+        for station in stations {
+            if !self.phase_in(station.phase, table) {
+                return false;
+            }
+        }
+        true
     }
 }

@@ -9,5 +9,5 @@ pub serve-requires : goal.serve-requires
 serve-requires c =
     let n = c.args.n in
     let before = arbiter_of n c.args.a.now in
-    let fits = arrived-servable n c.args.m c.args.s before c.if-n-s.false (sym c.is_servable.ensures ∙ c.if-not-is_servable.false) (has_room _ (c.in_ok-joined.ensures.refusal n)) in
-    servable_serves n c.in_ok-joined.joined (rw (c.in_ok-joined.ensures.arbiter n c.if-n-s.false) fits)
+    let fits = arrived-servable n c.args.m c.args.s before c.if-n-s.false (sym c.is_servable.ensures ∙ c.if-not-is_servable.false) (has_room _ (c.in-Ok.ensures.refusal n)) in
+    servable_serves n c.in-Ok.joined (rw (c.in-Ok.ensures.arbiter n c.if-n-s.false) fits)

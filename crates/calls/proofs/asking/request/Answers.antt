@@ -14,58 +14,54 @@ use Rattle.units.specs.declared.Units.{Units}
 use Rattle.plain.specs.Inner.Passed.{Requests}
 use Rattle.records.specs.View.{view}
 use Rattle.calls.specs.Inner.Parts.{ask_answer}
-use Rattle.calls.proofs.AskingMember.{lowest-station, request-asks, has-next}
+use Rattle.calls.proofs.AskingMember.{lowest-station, request-asks, some-next}
 use Rattle.calls.proofs.Requesting.{no-quorum, quorum-few, bad-units, not-idle, asked-units, passed}
 use Rattle.calls.proofs.StationTests.{request_turned}
 use Rattle.calls.proofs.asking.request.Goals as goal
-use Rattle.calls.proofs.asking.request.Goals.{After-is_idle, After-unwrap-next}
+use Rattle.calls.proofs.asking.request.Goals.{After-is_idle}
 
-pub returns-in_err-tested-clause-answer : goal.returns-in_err-tested-clause-answer
-returns-in_err-tested-clause-answer c =
-    let e : c.from_residual.result ≡ Err c.in_err-tested.field-0.0 = search rules in
-    rw e (sym (request_turned (view c.args.r.now) c.args.s c.in_err-tested.ensures.refusal (some_number c.in_err-tested.field-0.0) c.args.q (units_of c.args.h)))
+pub returns-in-Err-clause-answer : goal.returns-in-Err-clause-answer
+returns-in-Err-clause-answer c =
+    (sym (request_turned (view c.args.r.now) c.args.s c.in-Err.ensures.refusal (some_number c.in-Err.refusal) c.args.q (units_of c.args.h)))
 
 pub returns-then-r-q-clause-answer : goal.returns-then-r-q-clause-answer
-returns-then-r-q-clause-answer c = sym (no-quorum c.args.r.now c.args.s c.args.q c.args.h c.in_ok-tested.ensures.passed c.if-r-q.true)
+returns-then-r-q-clause-answer c = sym (no-quorum c.args.r.now c.args.s c.args.q c.args.h c.in-Ok.ensures.passed c.if-r-q.true)
 
 pub returns-then-not-request_in-clause-answer : goal.returns-then-not-request_in-clause-answer
 returns-then-not-request_in-clause-answer c =
-    sym (bad-units c.args.r.now c.args.s c.args.q c.args.h c.in_ok-tested.ensures.passed c.if-r-q.false c.units_of-units.result c.units_of-units.ensures (sym c.request_in.ensures ∙ c.if-not-request_in.true))
+    sym (bad-units c.args.r.now c.args.s c.args.q c.args.h c.in-Ok.ensures.passed c.if-r-q.false c.units_of-units.result c.units_of-units.ensures (sym c.request_in.ensures ∙ c.if-not-request_in.true))
 
 pub returns-then-not-is_idle-clause-answer : goal.returns-then-not-is_idle-clause-answer
 returns-then-not-is_idle-clause-answer c =
-    sym (not-idle c.args.r.now c.args.s c.args.q c.args.h c.in_ok-tested.ensures.passed c.if-r-q.false c.units_of-units.result c.units_of-units.ensures (sym c.request_in.ensures ∙ c.if-not-request_in.false) (sym c.is_idle.ensures ∙ c.if-not-is_idle.true))
+    sym (not-idle c.args.r.now c.args.s c.args.q c.args.h c.in-Ok.ensures.passed c.if-r-q.false c.units_of-units.result c.units_of-units.ensures (sym c.request_in.ensures ∙ c.if-not-request_in.false) (sym c.is_idle.ensures ∙ c.if-not-is_idle.true))
 
 pub bounds-r-q : goal.bounds-r-q
-bounds-r-q c = quorum-few c.args.r.now c.args.s c.args.q c.args.h c.in_ok-tested.ensures.passed c.if-r-q.false
+bounds-r-q c = quorum-few c.args.r.now c.args.s c.args.q c.args.h c.in-Ok.ensures.passed c.if-r-q.false
 
 passes : (c : After-is_idle) → c.is_idle.result ≡ true → Requests (view c.args.r.now) c.args.s c.args.q (units_of c.args.h)
 passes c idle =
-    passed c.args.r.now c.args.s c.args.q c.args.h c.in_ok-tested.ensures.passed c.if-r-q.false c.units_of-units.result c.units_of-units.ensures (sym c.request_in.ensures ∙ c.if-not-request_in.false) (sym c.is_idle.ensures ∙ idle)
+    passed c.args.r.now c.args.s c.args.q c.args.h c.in-Ok.ensures.passed c.if-r-q.false c.units_of-units.result c.units_of-units.ensures (sym c.request_in.ensures ∙ c.if-not-request_in.false) (sym c.is_idle.ensures ∙ idle)
 
-pub unwrap-next-requires : goal.unwrap-next-requires
-unwrap-next-requires c =
-    has-next c.args.r.now c.args.s c.args.q (units_of c.args.h) (passes (goal.at.unwrap-next-requires c).After-is_idle c.if-not-is_idle.false) c.lowest_from.result c.lowest_from.ensures.next
-
--- the lowest member, as it was found
-found : (c : After-unwrap-next) → c.unwrap-next.result ≡ next_from (get_or c.args.r.now.table c.args.q 0) 0
-found c = rw c.unwrap-next.ensures at c.lowest_from.ensures.next
+-- no quorum is empty
+pub returns-in_default : goal.returns-in_default
+returns-in_default c =
+    absurd (some-next c.args.r.now c.args.s c.args.q (units_of c.args.h) (passes (goal.at.returns-in_default c).After-is_idle c.if-not-is_idle.false) c.in_default.ensures.next)
 
 pub overflow_cast-wish-3 : goal.overflow_cast-wish-3
-overflow_cast-wish-3 c = let h = next-few (get_or c.args.r.now.table c.args.q 0) 0 c.unwrap-next.result (found (goal.at.overflow_cast-wish-3 c).After-unwrap-next) in omega arith
+overflow_cast-wish-3 c = let h = next-few (get_or c.args.r.now.table c.args.q 0) 0 c.in-Some.next c.in-Some.ensures.next in omega arith
 
 pub ask-requires : goal.ask-requires
 ask-requires c =
-    let stands = c.in_ok-tested.ensures.passed in
+    let stands = c.in-Ok.ensures.passed in
     let set = get_or c.args.r.now.table c.args.q 0 in
-    let member = next-member set 0 c.unwrap-next.result (found (goal.at.ask-requires c).After-unwrap-next) in
+    let member = next-member set 0 c.in-Some.next c.in-Some.ensures.next in
     (stands.few, stands.station, omega (arith, member, lowest-station c.args.r.now c.args.s c.args.q (units_of c.args.h) (passes (goal.at.ask-requires c).After-is_idle c.if-not-is_idle.false)))
 
 pub returns-clause-answer : goal.returns-clause-answer
 returns-clause-answer c =
     let r = c.args.r.now in
-    let next = c.unwrap-next.result in
+    let next = c.in-Some.next in
     let p = passes (goal.at.returns-clause-answer c).After-is_idle c.if-not-is_idle.false in
     c.ask.ensures.answer
-    ∙ ap (λ (u : Units). ask_answer (view r) c.args.s c.args.q u next.member next.above) (asked-units r c.args.s c.args.q c.args.h c.in_ok-tested.ensures.passed c.if-r-q.false c.units_of-units.result c.units_of-units.ensures (sym c.request_in.ensures ∙ c.if-not-request_in.false))
-    ∙ sym (request-asks r c.args.s c.args.q (units_of c.args.h) p next (found (goal.at.returns-clause-answer c).After-unwrap-next))
+    ∙ ap (λ (u : Units). ask_answer (view r) c.args.s c.args.q u next.member next.above) (asked-units r c.args.s c.args.q c.args.h c.in-Ok.ensures.passed c.if-r-q.false c.units_of-units.result c.units_of-units.ensures (sym c.request_in.ensures ∙ c.if-not-request_in.false))
+    ∙ sym (request-asks r c.args.s c.args.q (units_of c.args.h) p next c.in-Some.ensures.next)

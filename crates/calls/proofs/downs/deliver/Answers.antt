@@ -22,15 +22,14 @@ range c = sym c.in_range.ensures ∙ c.if-not-in_range.false
 pub oldest-requires : goal.oldest-requires
 oldest-requires c = few c.args.r.now (range (goal.at.oldest-requires c).Else-not-in_range)
 
-pub returns-in_err-message-clause-answer : goal.returns-in_err-message-clause-answer
+pub returns-in-Err-clause-answer : goal.returns-in-Err-clause-answer
 unfolding view
-returns-in_err-message-clause-answer c =
-    let x = c.in_err-message.field-0.0 in
-    let e : c.from_residual.result ≡ Err x = search rules in
-    rw e (sym (down_turned (view c.args.r.now) c.args.s c.args.j _ (range (goal.at.returns-in_err-message-clause-answer c).Else-not-in_range) (some_number x) c.in_err-message.ensures.refusal))
+returns-in-Err-clause-answer c =
+    let x = c.in-Err.refusal in
+    (sym (down_turned (view c.args.r.now) c.args.s c.args.j _ (range (goal.at.returns-in-Err-clause-answer c).Else-not-in_range) (some_number x) c.in-Err.ensures.refusal))
 
 pub receive-requires : goal.receive-requires
 unfolding view
 receive-requires c =
     let here = range (goal.at.receive-requires c).Else-not-in_range in
-    record { range = here; few = few c.args.r.now here; took = c.in_ok-message.ensures.took }
+    record { range = here; few = few c.args.r.now here; took = c.in-Ok.ensures.took }

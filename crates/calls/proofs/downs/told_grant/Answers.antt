@@ -75,22 +75,21 @@ module _ (c : After-granted) (w : Wish) (e : c.granted.result ≡ Asks w) where
       let r = c.args.r.now in
       asked-within r.n (table_of r) e (rw (table-read r (omega (arith, quorums-few r c.requires.range))) at c.granted.ensures.within)
 
-pub returns-in_err-returned-in-Asks-clause-answer : goal.returns-in_err-returned-in-Asks-clause-answer
-returns-in_err-returned-in-Asks-clause-answer c =
-    let x = c.in_err-returned-in-Asks.field-0.0 in
+pub returns-in-Err-clause-answer : goal.returns-in-Err-clause-answer
+returns-in-Err-clause-answer c =
+    let x = c.in-Err.refusal in
     let w = c.in-Asks.wish in
-    let g = (goal.at.returns-in_err-returned-in-Asks-clause-answer c).After-granted in
-    let e : c.from_residual.result ≡ Err x = search rules in
-    rw e (sym (asks_full c.args.r.now c.args.s c.args.j c.requires w (makes g c.in-Asks.is) (member g w c.in-Asks.is).1 c.in_err-returned-in-Asks.ensures.answer (some_number x)))
+    let g = (goal.at.returns-in-Err-clause-answer c).After-granted in
+    (sym (asks_full c.args.r.now c.args.s c.args.j c.requires w (makes g c.in-Asks.is) (member g w c.in-Asks.is).1 c.in-Err.ensures.answer (some_number x)))
 
 pub take_between-requires : goal.take_between-requires
 take_between-requires c = asked-takeable c.args.r.now c.args.s c.args.j c.requires c.ask.new.r c.ask.ensures.others
 
-pub returns-in_ok-returned-in-Asks-clause-answer : goal.returns-in_ok-returned-in-Asks-clause-answer
-returns-in_ok-returned-in-Asks-clause-answer c =
+pub returns-in-Ok-clause-answer : goal.returns-in-Ok-clause-answer
+returns-in-Ok-clause-answer c =
     let r = c.args.r.now in
     let w = c.in-Asks.wish in
-    let g = (goal.at.returns-in_ok-returned-in-Asks-clause-answer c).After-granted in
+    let g = (goal.at.returns-in-Ok-clause-answer c).After-granted in
     let rest = c.take_between.new.all in
     let without = asked-without r c.args.s c.args.j c.requires c.ask.new.r c.ask.ensures.others rest c.take_between.ensures in
-    sym (asks-done r c.args.s c.args.j c.requires w (makes g c.in-Asks.is) (member g w c.in-Asks.is).1 (returned_of c.in_ok-returned-in-Asks.returned) c.ask.new.r rest c.in_ok-returned-in-Asks.ensures.answer without)
+    sym (asks-done r c.args.s c.args.j c.requires w (makes g c.in-Asks.is) (member g w c.in-Asks.is).1 (returned_of c.in-Ok.returned) c.ask.new.r rest c.in-Ok.ensures.answer without)

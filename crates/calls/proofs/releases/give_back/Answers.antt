@@ -12,32 +12,30 @@ use Rattle.calls.proofs.SendingMessage.{had_room, no_room}
 use Rattle.calls.proofs.StationTests.{release_turned}
 use Rattle.calls.proofs.releases.give_back.Goals as goal
 
-pub returns-in_err-tested-clause-answer : goal.returns-in_err-tested-clause-answer
-returns-in_err-tested-clause-answer c =
-    let e : c.from_residual.result ≡ Err c.in_err-tested.field-0.0 = search rules in
-    rw e (sym (release_turned (view c.args.r.now) c.args.s c.in_err-tested.ensures.refusal (some_number c.in_err-tested.field-0.0)))
+pub returns-in-Err-clause-answer : goal.returns-in-Err-clause-answer
+returns-in-Err-clause-answer c =
+    (sym (release_turned (view c.args.r.now) c.args.s c.in-Err.ensures.refusal (some_number c.in-Err.refusal)))
 
 pub returns-in_default : goal.returns-in_default
-returns-in_default c = record { answer = sym (holds-nothing c.args.r.now c.args.s c.in_ok-tested.ensures.passed c.in_default.not-Holding); refused = refl }
+returns-in_default c = record { answer = sym (holds-nothing c.args.r.now c.args.s c.in-Ok.ensures.passed c.in_default.not-Holding); refused = refl }
 
 pub bounds-r-quorum : goal.bounds-r-quorum
-bounds-r-quorum c = held-number c.args.r.now c.args.s c.in_ok-tested.ensures.passed _ _ c.in-Holding.is
+bounds-r-quorum c = held-number c.args.r.now c.args.s c.in-Ok.ensures.passed _ _ c.in-Holding.is
 
 pub release_row-requires : goal.release_row-requires
 release_row-requires c =
-    let stands = c.in_ok-tested.ensures.passed in
+    let stands = c.in-Ok.ensures.passed in
     (stands.few, held-set c.args.r.now c.args.s stands _ _ c.in-Holding.is)
 
-pub returns-in_err-release_row-clause-answer : goal.returns-in_err-release_row-clause-answer
-returns-in_err-release_row-clause-answer c =
-    let x = c.in_err-release_row.field-0.0 in
-    let e : c.from_residual-in_err-release_row.result ≡ Err x = search rules in
-    let (full, number) = no_room _ x c.in_err-release_row.ensures.refusal in
-    rw e (ap (refused (view c.args.r.now)) number ∙ sym (full_back c.args.r.now c.args.s c.in_ok-tested.ensures.passed _ _ c.in-Holding.is full))
+pub returns-in-Err-release_row-clause-answer : goal.returns-in-Err-release_row-clause-answer
+returns-in-Err-release_row-clause-answer c =
+    let x = c.in-Err-release_row.refusal in
+    let (full, number) = no_room _ x c.in-Err-release_row.ensures.refusal in
+    (ap (refused (view c.args.r.now)) number ∙ sym (full_back c.args.r.now c.args.s c.in-Ok.ensures.passed _ _ c.in-Holding.is full))
 
 pub returns-clause-answer : goal.returns-clause-answer
 returns-clause-answer c =
     let units = c.in-Holding.units in
     ap (λ (x : Returned). done x (view c.send_row.new.r)) (left_besides c.nothing.result c.nothing.ensures units)
     ∙ ap (done (left_only units)) c.send_row.ensures
-    ∙ sym (goes_back c.args.r.now c.args.s c.in_ok-tested.ensures.passed _ _ c.in-Holding.is c.release_row.new.w (had_room _ c.in_ok-release_row.ensures.refusal) c.in_ok-release_row.ensures.row)
+    ∙ sym (goes_back c.args.r.now c.args.s c.in-Ok.ensures.passed _ _ c.in-Holding.is c.release_row.new.w (had_room _ c.in-Ok-release_row.ensures.refusal) c.in-Ok-release_row.ensures.row)

@@ -18,7 +18,7 @@ use Rattle.refusals.specs.Numbers.{refusal_of, number_of}
 use Rattle.calls.proofs.ReleasingRow.{released-below, below_none, passes-here, below_more, below_all, passes-member, other_stays, passes_other}
 use Rattle.calls.proofs.SendingMessage.{had_room, no_room}
 use Rattle.calls.proofs.releases.release_row.Goals as goal
-use Rattle.calls.proofs.releases.release_row.Goals.{then-has+in_ok-put_to, else-has, After-has}
+use Rattle.calls.proofs.releases.release_row.Goals.{then-has+in-Ok, else-has, After-has}
 
 pub loop-j-init : goal.loop-j-init
 loop-j-init c = (below_none _ _, refl)
@@ -37,12 +37,11 @@ module _ (c : After-has) (is-member : c.has.result ≡ true) where
       ∙ ap (λ (row : ℕ → List Message). release_passes c.args.set row c.loop-j.j) (sym c.loop-j.invariant.0)
       ∙ passes-member c.args.set now c.loop-j.j (sym c.has.ensures ∙ is-member)
 
-pub returns-in_err-put_to-clause-refusal : goal.returns-in_err-put_to-clause-refusal
-returns-in_err-put_to-clause-refusal c =
-    let here = goal.at.returns-in_err-put_to-clause-refusal c in
-    let e : refusal_of c.from_residual.result ≡ number_of c.in_err-put_to.field-0.0 = search rules in
-    let (f, number) = no_room _ c.in_err-put_to.field-0.0 (c.in_err-put_to.ensures.refusal c.args.n c.loop-j-test.true) in
-    rw (some_at (release_passes c.args.set (row_of c.args.n c.args.w.now)) c.args.n c.loop-j.j c.loop-j-test.true (full here.After-has c.if-has.true ∙ f)) (e ∙ number)
+pub returns-in-Err-clause-refusal : goal.returns-in-Err-clause-refusal
+returns-in-Err-clause-refusal c =
+    let here = goal.at.returns-in-Err-clause-refusal c in
+    let (f, number) = no_room _ c.in-Err.refusal (c.in-Err.ensures.refusal c.args.n c.loop-j-test.true) in
+    rw (some_at (release_passes c.args.set (row_of c.args.n c.args.w.now)) c.args.n c.loop-j.j c.loop-j-test.true (full here.After-has c.if-has.true ∙ f)) number
 
 pub loop-j-preserved : goal.loop-j-preserved
 loop-j-preserved c =
@@ -54,10 +53,10 @@ loop-j-preserved c =
     let more : at now j (releasing set now j) ≡ released-below set lanes (j + 1) =
     ap (λ (row : ℕ → List Message). at row j (releasing set row j)) c.loop-j.invariant.0 ∙ below_more set lanes j in
     elim c.if-has.branch [
-      | then-has+in_ok-put_to w ↦
+      | then-has+in-Ok w ↦
           let sends = releasing-member set now j (sym c.has.ensures ∙ w.if-has.true) in (
-            ap (row_of c.args.n) w.w-is ∙ w.in_ok-put_to.ensures.row c.args.n c.loop-j-test.true ∙ ap (at now j) (sym sends) ∙ more,
-            some-none (release_passes set lanes) j c.loop-j.invariant.1 (full h w.if-has.true ∙ had_room _ (w.in_ok-put_to.ensures.refusal c.args.n c.loop-j-test.true)),
+            ap (row_of c.args.n) w.w-is ∙ w.in-Ok.ensures.row c.args.n c.loop-j-test.true ∙ ap (at now j) (sym sends) ∙ more,
+            some-none (release_passes set lanes) j c.loop-j.invariant.1 (full h w.if-has.true ∙ had_room _ (w.in-Ok.ensures.refusal c.args.n c.loop-j-test.true)),
           )
       | else-has w ↦
           let other = sym c.has.ensures ∙ w.if-has.false in (

@@ -21,19 +21,18 @@ use Rattle.calls.proofs.ReplyingGone.{with_gone, reply_gone, reply_none, gone_ro
 use Rattle.calls.proofs.SendingGrants.{granted_before, before_first, before_next, still_room, would_pass, whole}
 use Rattle.calls.proofs.SendingMessage.{had_room, no_room, full_length, room_length}
 use Rattle.calls.proofs.sending.send.Goals as goal
-use Rattle.calls.proofs.sending.send.Goals.{else-is_withdrawal, then-is_withdrawal+in_ok-put_between, Joined-is_withdrawal, After-loop-entry}
+use Rattle.calls.proofs.sending.send.Goals.{else-is_withdrawal, then-is_withdrawal+in-Ok, Joined-is_withdrawal, After-loop-entry}
 
 -- ---- GONE
 
 -- the lane of the sender has no room
-pub returns-in_err-put_between-clause-refusal : goal.returns-in_err-put_between-clause-refusal
-returns-in_err-put_between-clause-refusal c =
+pub returns-in-Err-clause-refusal : goal.returns-in-Err-clause-refusal
+returns-in-Err-clause-refusal c =
     let x = c.args in
     let p = c.requires in
     let lanes = lanes_of x.n x.down.now in
-    let e : refusal_of c.from_residual.result ≡ number_of c.in_err-put_between.field-0.0 = search rules in
-    let (full, number) = no_room _ c.in_err-put_between.field-0.0 (c.in_err-put_between.ensures.refusal x.n p.station p.arbiter) in
-    rw (reply_gone lanes x.s x.j x.m (sym c.is_withdrawal.ensures ∙ c.if-is_withdrawal.true), gone_passes lanes x.s x.j x.n x.grants.now p.station (full_length down_places (lanes x.s x.j) Gone full)) (e ∙ number)
+    let (full, number) = no_room _ c.in-Err.refusal (c.in-Err.ensures.refusal x.n p.station p.arbiter) in
+    rw (reply_gone lanes x.s x.j x.m (sym c.is_withdrawal.ensures ∙ c.if-is_withdrawal.true), gone_passes lanes x.s x.j x.n x.grants.now p.station (full_length down_places (lanes x.s x.j) Gone full)) number
 
 -- GONE is in it, if it is sent, and all lanes from j keep their limit
 module _ (c : Joined-is_withdrawal) where
@@ -48,9 +47,9 @@ module _ (c : Joined-is_withdrawal) where
       let x = c.args in
       let p = c.requires in
       elim c.if-is_withdrawal.branch [
-        | then-is_withdrawal+in_ok-put_between w ↦
-            let gone : lanes ≡ with_gone before x.s x.j = ap (lanes_of x.n) w.down-is ∙ w.in_ok-put_between.ensures.lanes x.n p.station p.arbiter in
-            let room = room_length down_places (before x.s x.j) Gone (had_room _ (w.in_ok-put_between.ensures.refusal x.n p.station p.arbiter)) in
+        | then-is_withdrawal+in-Ok w ↦
+            let gone : lanes ≡ with_gone before x.s x.j = ap (lanes_of x.n) w.down-is ∙ w.in-Ok.ensures.lanes x.n p.station p.arbiter in
+            let room = room_length down_places (before x.s x.j) Gone (had_room _ (w.in-Ok.ensures.refusal x.n p.station p.arbiter)) in
             (gone ∙ sym (reply_gone before x.s x.j x.m (sym c.is_withdrawal.ensures ∙ w.if-is_withdrawal.true)), rw gone (gone_room before x.s x.j x.n p.room room))
         | else-is_withdrawal w ↦
             let same : lanes ≡ before = ap (lanes_of x.n) w.down-is in
@@ -65,19 +64,18 @@ loop-entry-init c =
     let e = before_first (lanes here) c.args.j c.args.grants.now in
     (sym e, λ t h. rw e ((told here).1 t h))
 
-pub returns-in_err-put_between-2-clause-refusal : goal.returns-in_err-put_between-2-clause-refusal
-returns-in_err-put_between-2-clause-refusal c =
-    let here = (goal.at.returns-in_err-put_between-2-clause-refusal c).Joined-is_withdrawal in
+pub returns-in-Err-put_between-clause-refusal : goal.returns-in-Err-put_between-clause-refusal
+returns-in-Err-put_between-clause-refusal c =
+    let here = (goal.at.returns-in-Err-put_between-clause-refusal c).Joined-is_withdrawal in
     let x = c.args in
     let i = c.loop-entry.entry-index in
     let grants = x.grants.now in
     let named = c.requires.named i c.loop-entry-test.true in
     let station = (get_or grants i no_entry).station in
-    let e : refusal_of c.from_residual-in_err-put_between-2.result ≡ number_of c.in_err-put_between-2.field-0.0 = search rules in
-    let (full, number) = no_room _ c.in_err-put_between-2.field-0.0 (c.in_err-put_between-2.ensures.refusal x.n named c.requires.arbiter) in
+    let (full, number) = no_room _ c.in-Err-put_between.refusal (c.in-Err-put_between.ensures.refusal x.n named c.requires.arbiter) in
     let long = full_length down_places (lanes_of x.n c.loop-entry.down station x.j) Grant full in
     let passing = would_pass (lanes here) x.j grants i x.n (length grants) c.loop-entry-test.true named (rw c.loop-entry.invariant.0 at long) in
-    rw (sym (told here).0, rw (whole no_entry grants) at passing) (e ∙ number)
+    rw (sym (told here).0, rw (whole no_entry grants) at passing) number
 
 pub loop-entry-preserved : goal.loop-entry-preserved
 loop-entry-preserved c =
@@ -89,10 +87,10 @@ loop-entry-preserved c =
     let station = (get_or grants i no_entry).station in
     let so_far = granted_before (lanes here) x.j grants i in
     let put : lanes_of x.n c.put_between-in-loop-entry.new.all ≡ granted_before (lanes here) x.j grants (i + 1) =
-    c.in_ok-put_between-2.ensures.lanes x.n named c.requires.arbiter
+    c.in-Ok-put_between.ensures.lanes x.n named c.requires.arbiter
     ∙ ap (λ (f : ℕ → ℕ → List Message). at2 f station x.j (sent (f station x.j) Grant)) c.loop-entry.invariant.0
     ∙ sym (before_next (lanes here) x.j grants i) in
-    let room = room_length down_places (lanes_of x.n c.loop-entry.down station x.j) Grant (had_room _ (c.in_ok-put_between-2.ensures.refusal x.n named c.requires.arbiter)) in
+    let room = room_length down_places (lanes_of x.n c.loop-entry.down station x.j) Grant (had_room _ (c.in-Ok-put_between.ensures.refusal x.n named c.requires.arbiter)) in
     (put, still_room (lanes here) x.j grants i x.n c.loop-entry.invariant.1 (rw c.loop-entry.invariant.0 at room))
 
 -- all have been granted

@@ -15,29 +15,27 @@ use Rattle.calls.proofs.SendingMessage.{had_room, no_room}
 use Rattle.calls.proofs.TakingMessage.{up-takeable, up-without}
 use Rattle.calls.proofs.ups.arrive.Goals as goal
 
-pub returns-in_err-delivery-clause-answer : goal.returns-in_err-delivery-clause-answer
-returns-in_err-delivery-clause-answer c =
+pub returns-in-Err-clause-answer : goal.returns-in-Err-clause-answer
+returns-in-Err-clause-answer c =
     let r = c.args.r.now in
-    let x = c.in_err-delivery.field-0.0 in
+    let x = c.in-Err.refusal in
     let t = c.requires in
     let a = get_or r.arbiters c.args.j no_arbiter in
     let f = fit r c.args.s c.args.j c.args.m t in
-    let e : c.from_residual.result ≡ Err x = search rules in
-    let full = told_full r.n r.stock c.args.s c.args.m a f t.took.station x c.in_err-delivery.ensures in
-    let number = told_14 r.n r.stock c.args.s c.args.m a f t.took.station x c.in_err-delivery.ensures in
-    rw (set-get_or r.arbiters c.args.j no_arbiter, e) (ap (refused (view r)) number ∙ sym (line_full_lem r c.args.s c.args.j c.args.m t full))
+    let full = told_full r.n r.stock c.args.s c.args.m a f t.took.station x c.in-Err.ensures in
+    let number = told_14 r.n r.stock c.args.s c.args.m a f t.took.station x c.in-Err.ensures in
+    rw (set-get_or r.arbiters c.args.j no_arbiter) (ap (refused (view r)) number ∙ sym (line_full_lem r c.args.s c.args.j c.args.m t full))
 
 pub send-requires : goal.send-requires
-send-requires c = sends c.args.r.now c.args.s c.args.j c.args.m c.requires c.in_ok-delivery.delivery c.in_ok-delivery.ensures c.granted.result.now c.granted.ensures
+send-requires c = sends c.args.r.now c.args.s c.args.j c.args.m c.requires c.in-Ok.delivery c.in-Ok.ensures c.granted.result.now c.granted.ensures
 
-pub returns-in_err-send-clause-answer : goal.returns-in_err-send-clause-answer
-returns-in_err-send-clause-answer c =
+pub returns-in-Err-send-clause-answer : goal.returns-in-Err-send-clause-answer
+returns-in-Err-send-clause-answer c =
     let r = c.args.r.now in
-    let x = c.in_err-send.field-0.0 in
-    let are = grants-are r c.args.s c.args.j c.args.m c.requires c.in_ok-delivery.delivery c.in_ok-delivery.ensures c.granted.result.now c.granted.ensures in
-    let e : c.from_residual-in_err-send.result ≡ Err x = search rules in
-    let (full, number) = no_room _ x c.in_err-send.ensures.refusal in
-    rw (set-get_or r.arbiters c.args.j no_arbiter, e) (ap (refused (view r)) number ∙ sym (lane-down_full r c.args.s c.args.j c.args.m c.requires c.granted.result.now are full))
+    let x = c.in-Err-send.refusal in
+    let are = grants-are r c.args.s c.args.j c.args.m c.requires c.in-Ok.delivery c.in-Ok.ensures c.granted.result.now c.granted.ensures in
+    let (full, number) = no_room _ x c.in-Err-send.ensures.refusal in
+    rw (set-get_or r.arbiters c.args.j no_arbiter) (ap (refused (view r)) number ∙ sym (lane-down_full r c.args.s c.args.j c.args.m c.requires c.granted.result.now are full))
 
 pub take_between-requires : goal.take_between-requires
 take_between-requires c = up-takeable c.args.r.now c.args.s c.args.j c.requires
@@ -48,10 +46,10 @@ returns-clause-answer c =
     let s = c.args.s in
     let j = c.args.j in
     let t = c.requires in
-    let d = c.in_ok-delivery.delivery in
+    let d = c.in-Ok.delivery in
     let g = c.granted.result.now in
-    let f = facts r s j c.args.m t d c.in_ok-delivery.ensures g c.granted.ensures in
-    let are = grants-are r s j c.args.m t d c.in_ok-delivery.ensures g c.granted.ensures in
+    let f = facts r s j c.args.m t d c.in-Ok.ensures g c.granted.ensures in
+    let are = grants-are r s j c.args.m t d c.in-Ok.ensures g c.granted.ensures in
     rw (set-get_or r.arbiters j no_arbiter)
     (ap (λ (x : Returned). done x (view (store_down c.send.new.down (store_arbiter j d.arbiter (store_up c.take_between.new.all r))))) c.nothing.ensures
-    ∙ sym (all-stored r s j c.args.m t g are d.arbiter c.take_between.new.all c.send.new.down (omega (arith, t.few, t.took.arbiter)) f.arbiter c.in_ok-send.ensures.lanes (up-without r s j t c.take_between.new.all c.take_between.ensures) f.room (had_room _ c.in_ok-send.ensures.refusal)))
+    ∙ sym (all-stored r s j c.args.m t g are d.arbiter c.take_between.new.all c.send.new.down (omega (arith, t.few, t.took.arbiter)) f.arbiter c.in-Ok-send.ensures.lanes (up-without r s j t c.take_between.new.all c.take_between.ensures) f.room (had_room _ c.in-Ok-send.ensures.refusal)))

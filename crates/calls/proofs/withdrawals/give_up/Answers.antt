@@ -11,31 +11,29 @@ use Rattle.calls.proofs.SendingMessage.{had_room, no_room}
 use Rattle.calls.proofs.StationTests.{withdraw_turned}
 use Rattle.calls.proofs.withdrawals.give_up.Goals as goal
 
-pub returns-in_err-tested-clause-answer : goal.returns-in_err-tested-clause-answer
-returns-in_err-tested-clause-answer c =
-    let e : c.from_residual.result ≡ Err c.in_err-tested.field-0.0 = search rules in
-    rw e (sym (withdraw_turned (view c.args.r.now) c.args.s c.in_err-tested.ensures.refusal (some_number c.in_err-tested.field-0.0)))
+pub returns-in-Err-clause-answer : goal.returns-in-Err-clause-answer
+returns-in-Err-clause-answer c =
+    (sym (withdraw_turned (view c.args.r.now) c.args.s c.in-Err.ensures.refusal (some_number c.in-Err.refusal)))
 
 pub returns-in_default : goal.returns-in_default
-returns-in_default c = record { answer = sym (collects-nothing c.args.r.now c.args.s c.in_ok-tested.ensures.passed c.in_default.not-Collecting); refused = refl }
+returns-in_default c = record { answer = sym (collects-nothing c.args.r.now c.args.s c.in-Ok.ensures.passed c.in_default.not-Collecting); refused = refl }
 
 pub bounds-r-quorum : goal.bounds-r-quorum
-bounds-r-quorum c = wished-number c.args.r.now c.args.s c.in_ok-tested.ensures.passed _ _ _ c.in-Collecting.is
+bounds-r-quorum c = wished-number c.args.r.now c.args.s c.in-Ok.ensures.passed _ _ _ c.in-Collecting.is
 
 pub withdraw_row-requires : goal.withdraw_row-requires
 withdraw_row-requires c =
-    let stands = c.in_ok-tested.ensures.passed in
+    let stands = c.in-Ok.ensures.passed in
     (stands.few, wished-set c.args.r.now c.args.s stands _ _ _ c.in-Collecting.is, approached c.args.r.now c.args.s stands _ _ _ c.in-Collecting.is)
 
-pub returns-in_err-withdraw_row-clause-answer : goal.returns-in_err-withdraw_row-clause-answer
-returns-in_err-withdraw_row-clause-answer c =
-    let x = c.in_err-withdraw_row.field-0.0 in
-    let e : c.from_residual-in_err-withdraw_row.result ≡ Err x = search rules in
-    let (full, number) = no_room _ x c.in_err-withdraw_row.ensures.refusal in
-    rw e (ap (refused (view c.args.r.now)) number ∙ sym (full_up c.args.r.now c.args.s c.in_ok-tested.ensures.passed _ _ _ c.in-Collecting.is full))
+pub returns-in-Err-withdraw_row-clause-answer : goal.returns-in-Err-withdraw_row-clause-answer
+returns-in-Err-withdraw_row-clause-answer c =
+    let x = c.in-Err-withdraw_row.refusal in
+    let (full, number) = no_room _ x c.in-Err-withdraw_row.ensures.refusal in
+    (ap (refused (view c.args.r.now)) number ∙ sym (full_up c.args.r.now c.args.s c.in-Ok.ensures.passed _ _ _ c.in-Collecting.is full))
 
 pub returns-clause-answer : goal.returns-clause-answer
 returns-clause-answer c =
     ap (λ (x : Returned). done x (view c.send_row.new.r)) c.nothing.ensures
     ∙ ap (done nothing) c.send_row.ensures
-    ∙ sym (goes_up c.args.r.now c.args.s c.in_ok-tested.ensures.passed _ _ _ c.in-Collecting.is c.withdraw_row.new.w (had_room _ c.in_ok-withdraw_row.ensures.refusal) c.in_ok-withdraw_row.ensures.row)
+    ∙ sym (goes_up c.args.r.now c.args.s c.in-Ok.ensures.passed _ _ _ c.in-Collecting.is c.withdraw_row.new.w (had_room _ c.in-Ok-withdraw_row.ensures.refusal) c.in-Ok-withdraw_row.ensures.row)

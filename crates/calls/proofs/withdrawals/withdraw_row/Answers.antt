@@ -22,13 +22,13 @@ release_row-requires c =
 
 released : (c : After-put_to) → c.common-granted.result ≡ below c.args.set c.args.member → ReleasedBelow c.args.n c.args.w.now c.args.set c.args.member c.release_row.new.w
 released c is =
-    record { member = c.requires.2; room = rw is at (had_room _ c.in_ok-release_row.ensures.refusal); lanes = rw is at c.in_ok-release_row.ensures.row }
+    record { member = c.requires.2; room = rw is at (had_room _ c.in-Ok.ensures.refusal); lanes = rw is at c.in-Ok.ensures.row }
 
-pub returns-clause-refusal : goal.returns-clause-refusal
-returns-clause-refusal c =
+pub returns-in-Ok-clause-refusal : goal.returns-in-Ok-clause-refusal
+returns-in-Ok-clause-refusal c =
     c.put_to.ensures.refusal c.args.n c.requires.2
-    ∙ ap (λ (full : Bool). first_broken (no_place when full ∷ [])) (sym (withdraw_passes (released (goal.at.returns-clause-refusal c).After-put_to (granted (goal.at.returns-clause-refusal c).After-common-granted))))
+    ∙ ap (λ (full : Bool). first_broken (no_place when full ∷ [])) (sym (withdraw_passes (released (goal.at.returns-in-Ok-clause-refusal c).After-put_to (granted (goal.at.returns-in-Ok-clause-refusal c).After-common-granted))))
 
-pub returns-clause-row : goal.returns-clause-row
-returns-clause-row c =
-    on_ok_weaker c.put_to.result (λ put. put c.args.n c.requires.2 ∙ withdraw-goes (released (goal.at.returns-clause-row c).After-put_to (granted (goal.at.returns-clause-row c).After-common-granted))) c.put_to.ensures.row
+pub returns-in-Ok-clause-row : goal.returns-in-Ok-clause-row
+returns-in-Ok-clause-row c =
+    on_ok_weaker c.put_to.result (λ put. put c.args.n c.requires.2 ∙ withdraw-goes (released (goal.at.returns-in-Ok-clause-row c).After-put_to (granted (goal.at.returns-in-Ok-clause-row c).After-common-granted))) c.put_to.ensures.row

@@ -17,8 +17,8 @@ loop-units-init c = (search rules, search rules)
 pub loop-units-preserved : goal.loop-units-preserved
 loop-units-preserved c =
     let i = c.loop-units.units-index in
-    let within : i < c.min-stations.result = omega (arith, length-take-le c.min-stations.result c.args.granted (omega (arith, c.min-stations.ensures))) in
-    let here = ap (λ (u : Units). u.positions) (get_or-take c.min-stations.result c.args.granted i no_units within ∙ sym (granted-at c.args.n c.args.granted i (omega (arith, c.min-stations.ensures)))) in
+    let within : i < c.smaller-stations.result = omega (arith, length-take-le c.smaller-stations.result c.args.granted (omega (arith, c.smaller-stations.ensures))) in
+    let here = ap (λ (u : Units). u.positions) (get_or-take c.smaller-stations.result c.args.granted i no_units within ∙ sym (granted-at c.args.n c.args.granted i (omega (arith, c.smaller-stations.ensures)))) in
     let t = total-more (λ i. (granted_of c.args.n c.args.granted i).positions) i in
     (omega (arith, here, t, c.loop-units.invariant.0), search rules)
 
@@ -26,8 +26,8 @@ pub returns : goal.returns
 unfolding fits
 returns c =
     let i = c.loop-units.units-index in
-    let size = length-take-le c.min-stations.result c.args.granted (omega (arith, c.min-stations.ensures)) in
-    let end : i ≡ c.min-stations.result = omega (arith, size) in
-    let all = granted-total c.args.n c.args.granted (λ (u : Units). u.positions) refl i (omega (arith, c.min-stations.ensures)) (λ h. omega (arith, c.min-stations.ensures)) in
+    let size = length-take-le c.smaller-stations.result c.args.granted (omega (arith, c.smaller-stations.ensures)) in
+    let end : i ≡ c.smaller-stations.result = omega (arith, size) in
+    let all = granted-total c.args.n c.args.granted (λ (u : Units). u.positions) refl i (omega (arith, c.smaller-stations.ensures)) (λ h. omega (arith, c.smaller-stations.ensures)) in
     let sum : c.loop-units.sum ≡ c.args.u.positions + total (λ i. (granted_of c.args.n c.args.granted i).positions) c.args.n = omega (arith, all, c.loop-units.invariant.0) in
     rw sum
