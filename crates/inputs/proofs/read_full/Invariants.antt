@@ -1,7 +1,7 @@
--- `answers::read_full` meets its contract. Each turn leaves less to fill.
+-- `inputs::read_full` meets its contract. Each turn leaves less to fill.
 -- Assumes nothing.
 use Rattle.std.proofs.Common.{length, ◌≡◌, ◌-◌, ◌≤◌}
-use Rattle.answers.proofs.read_full.Given as goal
+use Rattle.inputs.proofs.read_full.Given as goal
 
 abbrev pub invariant-loop-taken : goal.invariant-loop-taken
 invariant-loop-taken g l = (length l.text ≡ length l.initial.text) × (l.taken ≤ length l.text)
