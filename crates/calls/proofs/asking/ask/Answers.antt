@@ -1,9 +1,7 @@
 -- `calls::asking::ask` meets its contract. 14 where the lane would pass its limit; otherwise lane and station are stored.
 -- Assumes nothing.
-use mathlib.Core.Path.{◌≡◌, sym, ap, ◌∙◌}
+use mathlib.Core.Path.{sym, ap, ◌∙◌}
 use native.Mathlib.Omega.{arith}
-use borrow.Author.Rules.{rules}
-use Rattle.std.specs.Prelude.{Err}
 use Rattle.plain.specs.Answer.{Returned, refused, done}
 use Rattle.records.specs.View.{view}
 use Rattle.records.proofs.Storing.{store_phase, store_up}

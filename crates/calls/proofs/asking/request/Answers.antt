@@ -4,10 +4,7 @@ use mathlib.Core.Bool.{true}
 use mathlib.Core.Path.{◌≡◌, sym, ap, ◌∙◌}
 use native.Mathlib.Omega.{arith}
 use lib.ListN.{get_or}
-use borrow.Author.Rules.{rules}
-use Rattle.std.specs.Prelude.{Err}
 use Rattle.refusals.proofs.Outcomes.{some_number}
-use Rattle.stations.specs.Sets.{next_from}
 use Rattle.stations.proofs.Above.{next-member, next-few}
 use Rattle.units.specs.Units.{units_of}
 use Rattle.units.specs.declared.Units.{Units}

@@ -2,8 +2,6 @@
 -- Assumes nothing.
 use mathlib.Core.Bool.{true, not}
 use mathlib.Core.Path.{◌≡◌, refl, sym, ap, ◌∙◌}
-use borrow.Author.Rules.{rules}
-use Rattle.std.specs.Prelude.{Err}
 use Rattle.refusals.proofs.Outcomes.{some_number}
 use Rattle.plain.specs.InRange.{in_range}
 use Rattle.plain.proofs.Passed.{down-refused}

@@ -3,8 +3,6 @@
 use mathlib.Core.Path.{◌≡◌, sym, ap, ◌∙◌}
 use Prim.Native.Nat.{◌<◌}
 use native.Mathlib.Omega.{arith}
-use borrow.Author.Rules.{rules}
-use Rattle.std.specs.Prelude.{Err}
 use Rattle.refusals.proofs.Outcomes.{some_number}
 use Rattle.plain.specs.Answer.{Returned, done}
 use Rattle.plain.specs.Asking.{to_come}

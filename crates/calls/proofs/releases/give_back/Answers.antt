@@ -1,8 +1,6 @@
 -- `calls::releases::give_back` meets its contract. 19, 8 and 12 in their order; then RELEASE goes up to all members, and the lanes are stored.
 -- Assumes nothing.
-use mathlib.Core.Path.{◌≡◌, refl, sym, ap, ◌∙◌}
-use borrow.Author.Rules.{rules}
-use Rattle.std.specs.Prelude.{Err}
+use mathlib.Core.Path.{refl, sym, ap, ◌∙◌}
 use Rattle.refusals.proofs.Outcomes.{some_number}
 use Rattle.plain.specs.Answer.{Returned, left_only, refused, done}
 use Rattle.records.specs.View.{view}

@@ -5,7 +5,6 @@ use mathlib.Core.List.{List}
 use mathlib.Core.Path.{◌≡◌, refl, sym, ap, ◌∙◌}
 use Prim.Native.Nat.{ℕ, ◌+◌}
 use native.Mathlib.Omega.{arith}
-use borrow.Author.Rules.{rules}
 use Rattle.lists.specs.At.{at}
 use Rattle.lists.proofs.Searches.{some_at, some-none}
 use Rattle.plain.specs.Lanes.{up_places, passes, sent}
@@ -14,7 +13,6 @@ use Rattle.plain.specs.declared.Message.{Message}
 use Rattle.plain.specs.declared.Message.TheVariants.{Release}
 use Rattle.plain.proofs.Releasing.{releasing-member}
 use Rattle.records.specs.View.{row_of}
-use Rattle.refusals.specs.Numbers.{refusal_of, number_of}
 use Rattle.calls.proofs.ReleasingRow.{released-below, below_none, passes-here, below_more, below_all, passes-member, other_stays, passes_other}
 use Rattle.calls.proofs.SendingMessage.{had_room, no_room}
 use Rattle.calls.proofs.releases.release_row.Goals as goal

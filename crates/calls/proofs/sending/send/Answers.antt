@@ -5,7 +5,6 @@ use mathlib.Core.List.{List}
 use mathlib.Core.Path.{◌≡◌, sym, ap, ◌∙◌}
 use Prim.Native.Nat.{ℕ, ◌+◌, ◌≤◌, ◌<◌}
 use native.Mathlib.Omega.{arith}
-use borrow.Author.Rules.{rules}
 use borrow.Author.Tests.{le-ltb}
 use lib.ListN.{length, get_or}
 use Rattle.lists.specs.At.{at2}
@@ -15,7 +14,6 @@ use Rattle.plain.specs.Lanes.{down_places, passes, sent}
 use Rattle.plain.specs.Up.{replying, granting}
 use Rattle.plain.specs.declared.Message.{Message}
 use Rattle.plain.specs.declared.Message.TheVariants.{Grant, Gone}
-use Rattle.refusals.specs.Numbers.{refusal_of, number_of}
 use Rattle.records.specs.View.{no_entry, lanes_of}
 use Rattle.calls.proofs.ReplyingGone.{with_gone, reply_gone, reply_none, gone_room, gone_passes}
 use Rattle.calls.proofs.SendingGrants.{granted_before, before_first, before_next, still_room, would_pass, whole}

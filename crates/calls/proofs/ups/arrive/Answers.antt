@@ -1,10 +1,8 @@
 -- `calls::ups::arrive` meets its contract. 14 where the line or a lane down would pass its limit; otherwise all of it is stored.
 -- Assumes nothing.
-use mathlib.Core.Path.{◌≡◌, sym, ap, ◌∙◌}
+use mathlib.Core.Path.{sym, ap, ◌∙◌}
 use native.Mathlib.Omega.{arith}
 use lib.ListN.{get_or}
-use borrow.Author.Rules.{rules}
-use Rattle.std.specs.Prelude.{Err}
 use Rattle.std.proofs.lemmas.List.{set-get_or}
 use Rattle.plain.specs.Answer.{Returned, refused, done}
 use Rattle.arbiters.proofs.TellingArbiter.{told_full, told_14}

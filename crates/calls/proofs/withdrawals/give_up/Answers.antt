@@ -1,8 +1,6 @@
 -- `calls::withdrawals::give_up` meets its contract. 19, 8 and 20 in their order; then RELEASE and WITHDRAW go up, and the lanes are stored.
 -- Assumes nothing.
-use mathlib.Core.Path.{◌≡◌, refl, sym, ap, ◌∙◌}
-use borrow.Author.Rules.{rules}
-use Rattle.std.specs.Prelude.{Err}
+use mathlib.Core.Path.{refl, sym, ap, ◌∙◌}
 use Rattle.refusals.proofs.Outcomes.{some_number}
 use Rattle.plain.specs.Answer.{Returned, nothing, refused, done}
 use Rattle.records.specs.View.{view}
