@@ -1,5 +1,6 @@
 // Records made by hand, from what opening hands back.
-ghost use Rattle.std.specs.Prelude.{◌<◌};
+ghost use Rattle.std.specs.Prelude.{◌≡◌, ◌<◌};
+ghost use Rattle.scripts.specs.declared.by_hand.Way.TheVariants.{Up, Down};
 
 use plain::{Entry, Message, Phase};
 use records::{Arbiter, LINE_PLACES, Lane, Record, STATIONS, Slot, Station, UP_PLACES};
@@ -69,6 +70,8 @@ impl fmt::Display for Way {
 // With another lane between station s and arbiter j.
 pub fn with_lane(r: Record, way: Way, s: usize, j: usize, lane: Lane) -> Record
     requires { (s < 12) × (j < 12) }
+    ensures kept { (result.n ≡ r.n) × (result.stock ≡ r.stock) × (result.quorums ≡ r.quorums) × (result.table ≡ r.table) × (result.stations ≡ r.stations) × (result.arbiters ≡ r.arbiters) }
+    ensures other_way { (way ≡ Up → result.down ≡ r.down) × (way ≡ Down → result.up ≡ r.up) }
 {
     let mut next = r;
     match way {
