@@ -14,9 +14,11 @@ use records::Record;
 use refusals::Refusal;
 
 mod call_lists;
+mod doing;
 mod opening;
 
 pub use call_lists::is_formed;
+pub use doing::Do;
 
 // Whether a list of numbers is a list of calls of the form.
 pub use call_lists::all_formed;
@@ -27,19 +29,6 @@ pub use call_lists::all_formed;
 pub const CALL_NUMBERS: usize = 4;
 
 pub const ANSWER_NUMBERS: usize = 4;
-
-pub const DO_REQUEST: u16 = 0;
-
-pub const DO_UP: u16 = 1;
-
-pub const DO_DOWN: u16 = 2;
-
-pub const DO_RELEASE: u16 = 3;
-
-pub const DO_WITHDRAW: u16 = 4;
-
-// How many words `do` has.
-pub const WORDS_OF_DO: u16 = 5;
 
 // What a list of calls answers besides the numbers: whether the list was refused, and the record after it. A refused list hands back the record that it
 // was given.

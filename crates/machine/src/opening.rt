@@ -16,10 +16,9 @@ fn copied(quorums: &[u16]) -> [u16; quorum::MOST_QUORUMS]
     ensures { cut 0 (length quorums.now) result ≡ quorums.now }
 {
     let mut table = [0u16; quorum::MOST_QUORUMS];
-    let mut p: usize = 0;
-    while p < quorums.len() {
-        table[p] = quorums[p];
-        p += 1;
+    // a `for`: `copy_from_slice` needs C's memmove in the static library
+    for (p, quorum) in quorums.iter().enumerate() {
+        table[p] = *quorum;
     }
     table
 }
