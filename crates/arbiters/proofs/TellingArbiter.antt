@@ -15,7 +15,8 @@ use Rattle.lists.specs.Search.{all}
 use Rattle.lists.proofs.Broken.{number_at, BrokenAt, tests_done, tests_refuse}
 use Rattle.lists.proofs.Cuts.{length_cut, get_or-cut}
 use Rattle.lists.proofs.Searches.{all-at}
-use Rattle.lists.proofs.Tests.{known, and_left, and_right, and_both}
+use Rattle.lists.proofs.Tests.{and_left, and_right, and_both}
+use Rattle.std.proofs.lemmas.Bool.{cases_Bool}
 use Rattle.quorum.specs.Limits.{most_stations}
 use Rattle.refusals.specs.Numbers.{number_of}
 use Rattle.refusals.specs.declared.Refusal.{Refusal}
@@ -148,7 +149,7 @@ module _ (n : ℕ) (stock : Units) (s : ℕ) (m : Message) (a : Arbiter) (fit : 
     told_full =
         ⊎_elim (λ (t : passes line_places joined.line ≡ true). t)
         (λ (f : passes line_places joined.line ≡ false). absurd (some_number r (refusal_is ∙ ap (λ (t : Telling). t.refusal) (telling-done n stock s m before fit station f))))
-        (known (passes line_places joined.line))
+        (cases_Bool (passes line_places joined.line))
 
     pub told_14 : number_of r ≡ line_full
     told_14 = refusal_is ∙ ap (λ (t : Telling). t.refusal) (telling_full n stock s m before fit station told_full)
@@ -162,7 +163,7 @@ module _ (n : ℕ) (stock : Units) (s : ℕ) (m : Message) (a : Arbiter) (fit : 
     told-room =
         ⊎_elim (λ (t : passes line_places joined.line ≡ true). absurd (omega (arith, no_refusal ∙ ap (λ (x : Telling). x.refusal) (telling_full n stock s m before fit station t))))
         (λ (f : passes line_places joined.line ≡ false). f)
-        (known (passes line_places joined.line))
+        (cases_Bool (passes line_places joined.line))
 
     pub told-done : Told n stock joined d
     unfolding told_of

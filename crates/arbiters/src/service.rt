@@ -16,7 +16,12 @@ use units::Units;
 // The first entries of the line that fit, one after the other, are granted: so many.
 // n and stock are no struct: `deliver` promises for any two, and `units::fits` takes them apart.
 #[tactic(auto, using(crate::proofs::ServingLine::serve_more, crate::proofs::ServingLine::serve_stop, crate::proofs::ServingLine::serve_end, std::proofs::lemmas::Grind::common_steps))]
-pub(crate) fn grant(granted: &mut [Units; STATIONS], line: &[Entry], n: usize, stock: Units) -> usize
+pub(crate) fn grant(
+    granted: &mut [Units; STATIONS],
+    line: &[Entry],
+    n: usize,
+    stock: Units,
+) -> usize
     requires few { n ≤ most_stations }
     requires named { Named n (length line.now) line.now }
     ensures within { result ≤ length line.now }

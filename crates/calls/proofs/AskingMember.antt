@@ -9,7 +9,7 @@ use Rattle.std.specs.Prelude.{None}
 use lib.ListN.{length, get_or, take, drop}
 use Rattle.lists.specs.At.{at2}
 use Rattle.lists.proofs.Broken.{first_later}
-use Rattle.lists.proofs.Tests.{known}
+use Rattle.std.proofs.lemmas.Bool.{cases_Bool}
 use Rattle.stations.specs.Sets.{lowest_from, members_above, next_from, said}
 use Rattle.stations.specs.declared.NextMember.{NextMember}
 use Rattle.stations.proofs.Above.{next-member, next-above}
@@ -48,11 +48,11 @@ module _ (st : State) (s q : ℕ) (h : Units) (m above : ℕ) where
   module _ (a : Answer) (is : a ≡ ask_answer st s q h m above) where
     pub asked-full : (a.refusal ≡ 0 → ⊥) → ask_passes st s h m ≡ true
     asked-full some =
-        ⊎_elim (λ t. t) (λ (f : ask_passes st s h m ≡ false). absurd (some (ap (λ (x : Answer). x.refusal) (is ∙ ask_room f)))) (known (ask_passes st s h m))
+        ⊎_elim (λ t. t) (λ (f : ask_passes st s h m ≡ false). absurd (some (ap (λ (x : Answer). x.refusal) (is ∙ ask_room f)))) (cases_Bool (ask_passes st s h m))
 
     pub asked-room : a.refusal ≡ 0 → ask_passes st s h m ≡ false
     asked-room none =
-        ⊎_elim (λ (t : ask_passes st s h m ≡ true). absurd (omega (arith, ap (λ (x : Answer). x.refusal) (is ∙ ask_full t)))) (λ f. f) (known (ask_passes st s h m))
+        ⊎_elim (λ (t : ask_passes st s h m ≡ true). absurd (omega (arith, ap (λ (x : Answer). x.refusal) (is ∙ ask_full t)))) (λ f. f) (cases_Bool (ask_passes st s h m))
 
 -- ---- on a record
 

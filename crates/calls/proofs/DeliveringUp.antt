@@ -11,7 +11,7 @@ use Rattle.lists.specs.At.{at2}
 use Rattle.lists.specs.Search.{some_below}
 use Rattle.lists.specs.Cut.{cut}
 use Rattle.lists.proofs.Cuts.{length_cut, get_or-cut}
-use Rattle.lists.proofs.Tests.{or_left, or_right}
+use Rattle.std.proofs.lemmas.Bool.{or_left, or_right}
 use Rattle.plain.specs.Answer.{nothing, refused, done}
 use Rattle.plain.specs.Arbiter.{arrived, Served, served}
 use Rattle.plain.specs.Lanes.{down_places, line_places, no_place, passes}

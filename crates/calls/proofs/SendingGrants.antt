@@ -15,7 +15,7 @@ use Rattle.lists.specs.Cut.{cut}
 use Rattle.lists.specs.Search.{some_below}
 use Rattle.lists.proofs.Changed.{at2-same, at2_other}
 use Rattle.lists.proofs.Cuts.{cut-more}
-use Rattle.lists.proofs.Joined.{map-append}
+use Rattle.std.proofs.lemmas.List.{map-append}
 use Rattle.lists.proofs.Searches.{some_at}
 use Rattle.plain.specs.Arbiter.{units_in, grants_to}
 use Rattle.plain.specs.Lanes.{down_places, passes, sent}

@@ -9,7 +9,7 @@ use native.Mathlib.Omega.{arith}
 use lib.ListN.{length, length-append}
 use borrow.Author.Tests.{lt-ltb, le-ltb, ltb-true, ltb-false}
 use Rattle.lists.specs.Broken.{◌when◌, first_broken}
-use Rattle.lists.proofs.Tests.{known}
+use Rattle.std.proofs.lemmas.Bool.{cases_Bool}
 use Rattle.refusals.specs.Numbers.{number_of}
 use Rattle.refusals.specs.declared.Refusal.{Refusal}
 use Rattle.refusals.proofs.Outcomes.{some_number}
@@ -28,11 +28,11 @@ lane_room limit l m h = le-ltb limit (length (sent (lane_of l) m)) (rw (length-a
 -- what the one test says by which something is refused for want of a place
 pub had_room : (full : Bool) → 0 ≡ first_broken (no_place when full ∷ []) → full ≡ false
 had_room full e =
-    ⊎_elim (λ (t : full ≡ true). absurd (omega (arith, rw t at e))) (λ (f : full ≡ false). f) (known full)
+    ⊎_elim (λ (t : full ≡ true). absurd (omega (arith, rw t at e))) (λ (f : full ≡ false). f) (cases_Bool full)
 
 pub was_full : (full : Bool) (r : ℕ) → (r ≡ 0 → ⊥) → r ≡ first_broken (no_place when full ∷ []) → (full ≡ true) × (r ≡ no_place)
 was_full full r some e =
-    ⊎_elim (λ (t : full ≡ true). (t, rw t at e)) (λ (f : full ≡ false). absurd (some (rw f at e))) (known full)
+    ⊎_elim (λ (t : full ≡ true). (t, rw t at e)) (λ (f : full ≡ false). absurd (some (rw f at e))) (cases_Bool full)
 
 -- a refusal that a `?` hands on was for want of a place
 pub no_room : (full : Bool) (e : Refusal) → number_of e ≡ first_broken (no_place when full ∷ []) → (full ≡ true) × (number_of e ≡ no_place)

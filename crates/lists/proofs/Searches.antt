@@ -2,19 +2,16 @@
 -- Assumes nothing.
 use mathlib.Core.Bool.{Bool, true, false, ◌&&◌, ◌||◌, and_assoc, and-true, or_assoc, or-false}
 use mathlib.Core.List.{List, [], ◌∷◌, ◌++◌, map}
-use mathlib.Core.Logic.{◌⊎◌, ⊎_elim, by_cases}
+use mathlib.Core.Logic.{⊎_elim}
 use mathlib.Core.Path.{◌≡◌, refl, sym, ap, ap₂, ◌∙◌}
-use Prim.Native.Nat.{ℕ, zero, suc, ◌+◌, ◌≤◌, ◌<◌}
-use native.Mathlib.Decide.{ℕ_discrete}
+use Prim.Native.Nat.{ℕ, zero, suc, ◌+◌, ◌<◌}
 use native.Mathlib.Numerals.{add-one}
 use native.Mathlib.Omega.{arith}
-use lib.Dec.{eqb}
-use lib.ListN.{length, get_or, drop, drop_of_length-le}
-use lib.Seq.{drop-cons}
-use borrow.Author.Tests.{eq-eqb, ne_eqb}
+use lib.ListN.{length, get_or}
 use Rattle.lists.specs.Search.{any, all, first_of, every_below, some_below}
 use Rattle.lists.proofs.Below.{below_suc}
-use Rattle.lists.proofs.Tests.{known, clash, not-true-false, and_left, and_right, and_both, or-none, or_left, or_right, or_cases}
+use Rattle.lists.proofs.Tests.{clash, and_left, and_right, and_both}
+use Rattle.std.proofs.lemmas.Bool.{cases_Bool, false_from_ne_true, or_parts, or_left, or_right, or_cases}
 
 module _ {A : Type 0} where
   pub any_append : (f : A → Bool) (xs ys : List A) → any f (xs ++ ys) ≡ (any f xs || any f ys)
@@ -34,29 +31,16 @@ module _ {A : Type 0} where
       (λ (t : any f xs ≡ true). let (i, h, t') = any_found f d xs t in (suc i, omega arith, t'))
       (or_cases (f x) (any f xs) e)
 
-  -- from a place on: it holds there, it does not, and at the end
-  pub any_here : (f : A → Bool) (d : A) (xs : List A) (i : ℕ) → i < length xs → f (get_or xs i d) ≡ true → any f (drop i xs) ≡ true
-  any_here f d xs i h t = rw (drop-cons xs i d h, t)
-
-  pub any_later : (f : A → Bool) (d : A) (xs : List A) (i : ℕ) → i < length xs → f (get_or xs i d) ≡ false → any f (drop i xs) ≡ any f (drop (i + 1) xs)
-  any_later f d xs i h e = rw (add-one i, drop-cons xs i d h, e)
-
-  pub any_end : (f : A → Bool) (xs : List A) (i : ℕ) → length xs ≤ i → any f (drop i xs) ≡ false
-  any_end f xs i h = rw (drop_of_length-le xs h)
-
   -- every element: the one at a place
   pub all-at : (f : A → Bool) (d : A) (xs : List A) → all f xs ≡ true → (i : ℕ) → i < length xs → f (get_or xs i d) ≡ true
   all-at f d [] e i h = absurd (omega arith)
   all-at f d (x ∷ xs) e zero h = and_left (f x) (all f xs) e
   all-at f d (x ∷ xs) e (suc i) h = all-at f d xs (and_right (f x) (all f xs) e) i (omega arith)
 
-  -- and all of them, or one that fails
+  -- and all of them
   pub all_true : (f : A → Bool) (d : A) (xs : List A) → ((i : ℕ) → i < length xs → f (get_or xs i d) ≡ true) → all f xs ≡ true
   all_true f d [] h = refl
   all_true f d (x ∷ xs) h = and_both (h 0 (omega arith)) (all_true f d xs (λ i l. h (suc i) (omega arith)))
-
-  pub all-false : (f : A → Bool) (d : A) (xs : List A) (i : ℕ) → i < length xs → f (get_or xs i d) ≡ false → all f xs ≡ false
-  all-false f d xs i h e = not-true-false (all f xs) (λ t. clash (all-at f d xs t i h) e)
 
   -- of two lists joined
   pub all_append : (f : A → Bool) (xs ys : List A) → all f xs ≡ true → all f ys ≡ true → all f (xs ++ ys) ≡ true
@@ -76,12 +60,12 @@ module _ {A : Type 0} where
   pub first_append_some : (f : A → Bool) (d : A) (xs ys : List A) → any f xs ≡ true → first_of f d (xs ++ ys) ≡ first_of f d xs
   first_append_some f d [] ys h = absurd (clash h refl)
   first_append_some f d (x ∷ xs) ys h =
-      ⊎_elim (λ t. rw t) (λ e. rw e (first_append_some f d xs ys (rw e at h))) (known (f x))
+      ⊎_elim (λ t. rw t) (λ e. rw e (first_append_some f d xs ys (rw e at h))) (cases_Bool (f x))
 
   pub first_append_none : (f : A → Bool) (d : A) (xs ys : List A) → any f xs ≡ false → first_of f d (xs ++ ys) ≡ first_of f d ys
   first_append_none f d [] ys h = refl
   first_append_none f d (x ∷ xs) ys h =
-      let (e, rest) = or-none (f x) (any f xs) h in rw e (first_append_none f d xs ys rest)
+      let (e, rest) = or_parts (f x) (any f xs) h in rw e (first_append_none f d xs ys rest)
 
 module _ {A B : Type 0} where
   pub any-map : (f : B → Bool) (g : A → B) (xs : List A) → any f (map g xs) ≡ any (λ (x : A). f (g x)) xs
@@ -96,7 +80,7 @@ module _ {A B : Type 0} where
       → first_of f e (map g xs) ≡ g (first_of (λ (x : A). f (g x)) d xs)
   first_map f g d e [] h = absurd (clash h refl)
   first_map f g d e (x ∷ xs) h =
-      ⊎_elim (λ t. rw t) (λ n. rw n (first_map f g d e xs (rw n at h))) (known (f (g x)))
+      ⊎_elim (λ t. rw t) (λ n. rw n (first_map f g d e xs (rw n at h))) (cases_Bool (f (g x)))
 
 -- ---- numbers below a bound
 
@@ -110,7 +94,7 @@ every_at f (suc n) e i h =
     below_suc n (every_at f n (and_left (every_below f n) (f n) e)) (and_right (every_below f n) (f n) e) i h
 
 pub every_false : (f : ℕ → Bool) (n i : ℕ) → i < n → f i ≡ false → every_below f n ≡ false
-every_false f n i h e = not-true-false (every_below f n) (λ t. clash (every_at f n t i h) e)
+every_false f n i h e = false_from_ne_true (every_below f n) (λ t. clash (every_at f n t i h) e)
 
 -- tests that agree below n
 pub every_same : (f g : ℕ → Bool) (n : ℕ) → ((i : ℕ) → i < n → f i ≡ g i) → every_below f n ≡ every_below g n
@@ -124,7 +108,7 @@ some_at f (suc n) i h t =
     (λ j p s. or_left (some_below f n) (f n) (some_at f n j p s)) (λ s. or_right (some_below f n) (f n) s) i h t
 
 pub some-never : (f : ℕ → Bool) (n : ℕ) → some_below f n ≡ false → (i : ℕ) → i < n → f i ≡ false
-some-never f n e i h = not-true-false (f i) (λ t. clash (some_at f n i h t) e)
+some-never f n e i h = false_from_ne_true (f i) (λ t. clash (some_at f n i h t) e)
 
 pub some_empty : (f : ℕ → Bool) (n : ℕ) → ((i : ℕ) → i < n → f i ≡ false) → some_below f n ≡ false
 some_empty f zero h = refl
@@ -149,23 +133,3 @@ some_same f g (suc n) h = ap₂ ◌||◌ (some_same f g n (λ i p. h i (omega ar
 pub some_first : (f : ℕ → Bool) (n : ℕ) → some_below f (suc n) ≡ (f 0 || some_below (λ i. f (suc i)) n)
 some_first f zero = sym (or-false (f 0))
 some_first f (suc n) = ap (λ (b : Bool). b || f (suc n)) (some_first f n) ∙ or_assoc (f 0) (some_below (λ i. f (suc i)) n) (f (suc n))
-
--- ---- a loop over the numbers from 0 on, below n, that goes on while f holds
-
--- the loop is at i, and f holds of every number before
-pub record Tested (f : ℕ → Bool) (n i : ℕ) : Type 0 where
-  pub within : i ≤ n
-  pub every : every_below f i ≡ true
-
-pub tested_none : (f : ℕ → Bool) (n : ℕ) → Tested f n 0
-tested_none f n = record { within = omega arith; every = refl }
-
-pub tested_more : {f : ℕ → Bool} {n i : ℕ} {b : Bool} → Tested f n i → i < n → b ≡ f i → b ≡ true → Tested f n (i + 1)
-tested_more {f} {n} {i} t h p e = record { within = omega arith; every = rw (add-one i) (and_both t.every (sym p ∙ e)) }
-
--- left at i, by one of two ways: f holds of every number below n if i is n
-pub tested_left : {A B : Type 0} {f : ℕ → Bool} {n i : ℕ} → Tested f n i → (A → f i ≡ false) → (B → n ≤ i) → A ⊎ B → eqb i n ≡ every_below f n
-tested_left {A} {B} {f} {n} {i} t fails end w =
-    by_cases (ℕ_discrete i n)
-    (λ (e : i ≡ n). eq-eqb i n e ∙ sym (ap (every_below f) (sym e) ∙ t.every))
-    (λ (o : i ≡ n → ⊥). ne_eqb i n o ∙ sym (⊎_elim (λ a. every_false f n i (let l = t.within in omega arith) (fails a)) (λ b. absurd (let l = t.within in let m = end b in omega arith)) w))

@@ -27,7 +27,7 @@ pub struct ReadRecord {
 
 // What stands for the record where it is refused.
 const REQUEST_AND_ZEROS: JournalRecord = JournalRecord {
-    what: machine::DO_REQUEST,
+    what: machine::Do::Request as u16,
     station: 0,
     with: 0,
     units: 0,

@@ -14,7 +14,8 @@ use contract.Lifetimes.{Lfts}
 use denote.Ref.{Bor, MutBor}
 use Rattle.std.specs.Prelude.{Result}
 use Rattle.lists.proofs.Searches.{every_true, every_at, all_true, all-at}
-use Rattle.lists.proofs.Tests.{known, and_left, and_right, or_left, or_right, or_cases}
+use Rattle.lists.proofs.Tests.{and_left, and_right}
+use Rattle.std.proofs.lemmas.Bool.{cases_Bool, or_left, or_right, or_cases}
 use Rattle.stations.specs.Sets.{size}
 use Rattle.quorum.specs.Answer.{Answer, answer_to, answer, said}
 use Rattle.quorum.specs.Even.{belongs, equal_shares, equal_sizes, even}
@@ -73,9 +74,9 @@ answer-even n table r =
     ⊎_elim (λ (e : eqb r 0 ≡ true). rw e)
     (λ (d : eqb r 0 ≡ false).
     ⊎_elim (λ (e : eqb r 6 ≡ true). rw (d, e))
-    (λ (d' : eqb r 6 ≡ false). ⊎_elim (λ (e : eqb r 7 ≡ true). rw (d, d', e)) (λ (d'' : eqb r 7 ≡ false). rw (d, d', d'')) (known (eqb r 7)))
-    (known (eqb r 6)))
-    (known (eqb r 0))
+    (λ (d' : eqb r 6 ≡ false). ⊎_elim (λ (e : eqb r 7 ≡ true). rw (d, d', e)) (λ (d'' : eqb r 7 ≡ false). rw (d, d', d'')) (cases_Bool (eqb r 7)))
+    (cases_Bool (eqb r 6)))
+    (cases_Bool (eqb r 0))
 
 said-even : (n k : ℕ) (table : List ℕ) (room : ℕ) (checked : Result Accepted Rejected) → said checked ≡ answer n k table room
     → (said checked).even ≡ cond (asked (said checked).refusal) (even n table) 0
@@ -84,13 +85,13 @@ said-even n k table room checked e =
     ap (λ (a : Answer). a.even) e ∙ answer-even n table (refusal n k table room)
     ∙ ap (λ (r : ℕ). cond (asked r) (even n table) 0) (sym (said-refusal n k table room checked e))
 
--- A call of `check`, with any numbers and slices, is known by what the checker has learnt of it: its contract, and nothing else. `left` is the
+-- A call of `check`, with any numbers and slices, is cases_Bool by what the checker has learnt of it: its contract, and nothing else. `left` is the
 -- scratch afterwards.
 pub check_even : (n k : ℕ) (quorums : Bor (List ℕ)) (scratch left : MutBor (List ℕ)) (checked : Result Accepted Rejected) (κs : Lfts 2)
     → check.Learnt κs (n, (k, (quorums, (scratch, tt)))) checked (n, (k, (quorums, (left, tt))))
     → ((said checked).even ≡ 1) ↔ ((((said checked).refusal ≡ 0) ⊎ ((said checked).refusal ≡ 6)) × SomeSymmetric n quorums.now)
 unfolding asked
-check_even n k quorums scratch left checked κs learnt = (to (known (asked r)), from)
+check_even n k quorums scratch left checked κs learnt = (to (cases_Bool (asked r)), from)
   where
     r : ℕ
     r = (said checked).refusal

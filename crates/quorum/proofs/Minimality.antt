@@ -9,7 +9,8 @@ use native.Mathlib.Omega.{arith}
 use lib.ListN.{length, get_or}
 use Rattle.lists.specs.Search.{any}
 use Rattle.lists.proofs.Searches.{any_at, any_found}
-use Rattle.lists.proofs.Tests.{clash, or_left, or_right, or_cases, not-true-false}
+use Rattle.lists.proofs.Tests.{clash}
+use Rattle.std.proofs.lemmas.Bool.{or_left, or_right, or_cases, false_from_ne_true}
 use Rattle.stations.specs.Sets.{contains}
 use Rattle.stations.proofs.Members.{contains-members, members-contains}
 use Rattle.quorum.specs.Arbiter.{LiesWithin}
@@ -84,7 +85,7 @@ minimal table e p q a b d within =
 
 pub minimal_nested : (table : List ℕ) → ((p q : ℕ) → p < length table → q < length table → (p ≡ q → ⊥) → LiesWithin table p q → ⊥) → nested table ≡ false
 minimal_nested table h =
-    not-true-false (nested table) (λ t.
+    false_from_ne_true (nested table) (λ t.
     let x = nested-some table t in
     h x.inner x.outer x.inner_below x.outer_below x.apart
     (contains-members (quorum table x.outer) (quorum table x.inner) x.holds))

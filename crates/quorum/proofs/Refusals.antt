@@ -10,7 +10,7 @@ use Rattle.std.specs.Prelude.{Result}
 use borrow.Author.Tests.{eqb-true, lt-ltb, le-ltb}
 use Rattle.lists.specs.Broken.{first_broken}
 use Rattle.lists.proofs.Broken.{broken-at, first_earlier, first_later}
-use Rattle.lists.proofs.Tests.{known}
+use Rattle.std.proofs.lemmas.Bool.{cases_Bool}
 use Rattle.quorum.specs.Answer.{Answer, answer_to, answer, said}
 use Rattle.quorum.specs.Limits.{limit_tests, broken_limit}
 use Rattle.quorum.specs.Nested.{nested}
@@ -52,9 +52,9 @@ answer-refusal n table r =
     (λ (d : eqb r 0 ≡ false).
     ⊎_elim (λ (e : eqb r 6 ≡ true). rw (d, e) (sym (eqb-true r 6 e)))
     (λ (d' : eqb r 6 ≡ false).
-    ⊎_elim (λ (e : eqb r 7 ≡ true). rw (d, d', e) (sym (eqb-true r 7 e))) (λ (d'' : eqb r 7 ≡ false). rw (d, d', d'')) (known (eqb r 7)))
-    (known (eqb r 6)))
-    (known (eqb r 0))
+    ⊎_elim (λ (e : eqb r 7 ≡ true). rw (d, d', e) (sym (eqb-true r 7 e))) (λ (d'' : eqb r 7 ≡ false). rw (d, d', d'')) (cases_Bool (eqb r 7)))
+    (cases_Bool (eqb r 6)))
+    (cases_Bool (eqb r 0))
 
 -- and so does the code's, where it says that answer
 pub said-refusal : (n k : ℕ) (table : List ℕ) (room : ℕ) (checked : Result Accepted Rejected) → said checked ≡ answer n k table room → (said checked).refusal ≡ refusal n k table room

@@ -12,7 +12,8 @@ use lib.Bits.{bit_and, and_shr, and_mod, and_mask}
 use lib.Dec.{eqb, ltb}
 use lib.Pow.{pow_mono, pow-lt, ones_lt, ones_split, high, low, shr-shr}
 use borrow.Author.Tests.{eq-eqb, ne_eqb, eqb-true, ltb-true, ltb-false}
-use Rattle.lists.proofs.Tests.{known, clash, and_left, and-within}
+use Rattle.lists.proofs.Tests.{clash, and_left, and-within}
+use Rattle.std.proofs.lemmas.Bool.{cases_Bool}
 use Rattle.stations.specs.Member.{member}
 use Rattle.stations.specs.Sets.{everyone, contains, places}
 
@@ -139,7 +140,7 @@ member_beyond q i h g = member_below places q i h g
 -- a member of a set of stations below n is below n
 pub member-station : (n q i : ℕ) → q < 2 ^ n → member q i ≡ true → i < n
 member-station n q i h m =
-    ⊎_elim (λ t. ltb-true i n t) (λ f. absurd (clash m (member_below n q i h (ltb-false i n f)))) (known (ltb i n))
+    ⊎_elim (λ t. ltb-true i n t) (λ f. absurd (clash m (member_below n q i h (ltb-false i n f)))) (cases_Bool (ltb i n))
 
 -- everyone is everyone: of n stations, each below n
 pub member-everyone : (n i : ℕ) → i < n → member (everyone n) i ≡ true

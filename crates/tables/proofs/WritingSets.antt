@@ -8,8 +8,8 @@ use native.Mathlib.Nat.{add-zero, zero-add, add_assoc}
 use native.Mathlib.Omega.{arith}
 use lib.ListN.{length, set, take, drop, length-map, length-drop}
 use lib.Seq.{sets, sets-eq, length-sets, take_all}
-use Rattle.std.proofs.lemmas.List.{drop-drop}
-use Rattle.lists.proofs.Joined.{map-append, sets_append, sets_front}
+use Rattle.std.proofs.lemmas.List.{drop-drop, map-append}
+use Rattle.lists.proofs.Joined.{sets_append, sets_front}
 use Rattle.stations.specs.Sizes.{sets_of, choose}
 use Rattle.stations.proofs.SetsOfSize.{sets_zero, sets_none, sets_split, sets_length}
 use Rattle.tables.specs.Inner.Stored.{stored}

@@ -8,7 +8,8 @@ use Prim.Native.Nat.{ℕ}
 use lib.ListN.{length}
 use Rattle.std.specs.Prelude.{Result, Ok}
 use borrow.Author.Tests.{le-leb}
-use Rattle.lists.proofs.Tests.{known, and_both}
+use Rattle.lists.proofs.Tests.{and_both}
+use Rattle.std.proofs.lemmas.Bool.{cases_Bool}
 use Rattle.quorum.specs.Answer.{said, answer_to, answer}
 use Rattle.quorum.specs.Limits.{most_units, up_to}
 use Rattle.quorum.specs.Refusal.{refusal}
@@ -32,7 +33,7 @@ unfolding answer
 asked n k table room =
     ⊎_elim {C = answer n (asked_with (storable stock_of k)) table room ≡ answer n (asked_with (stock_of k)) table room} (λ t. ap (λ (u : Units). answer n (asked_with u) table room) (stock-stored k t))
     (λ f. ap (answer_to n table) (refused_alike n (asked_with (storable stock_of k)) (asked_with (stock_of k)) table room f (sym (asked-stored k) ∙ f)))
-    (known (up_to most_units (asked_with (storable stock_of k))))
+    (cases_Bool (up_to most_units (asked_with (storable stock_of k))))
 
 -- what the check answers, asked with the units of the stock that the number k stands for
 module _ (n k : ℕ) (table : List ℕ) (room : ℕ) (stock : Units) (stored : stock ≡ storable stock_of k) (units : ℕ) (with_stock : units ≡ asked_with stock) (found : Result Accepted Rejected)
