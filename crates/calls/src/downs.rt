@@ -131,7 +131,7 @@ fn receive(r: &mut Record, s: usize, j: usize, m: Message) -> Result<Returned, R
     }
 }
 
-// Down.
+// Down. No twin of Up: other lanes, another definition, and what follows is another part; one function of both would take all three.
 pub(crate) fn deliver(r: &mut Record, s: usize, j: usize) -> Result<Returned, Refusal>
     ensures answer { answered_by result (view r.new) ≡ down (view r.old) s j }
     ensures refused { OnErr result (r.new ≡ r.old) }

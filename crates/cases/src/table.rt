@@ -67,7 +67,8 @@ fn check_on<const BYTES: usize>(
     println!(rt; " zeros={zeros} kept={kept}")
 }
 
-// On more scratch than the check asks for.
+// On more scratch than the check asks for. Not one with `check_short`: it prints the line of the outages besides. n, k and the quorums stay three, as the
+// check takes them.
 pub(crate) fn check(
     rt: &impl Print,
     name: &str,

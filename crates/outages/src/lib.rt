@@ -12,6 +12,7 @@ mod working;
 use refusals::Refusal;
 
 // A set of stations has one of so many sizes, 0 to 12.
+// The counts stand in an array, and not in a Vec: there is no heap.
 pub const SIZES: usize = quorum::MOST_STATIONS + 1;
 
 // For each u from 0 to n the number of sets of u working stations that contain a whole quorum, and 0 in the places behind; on the check's own

@@ -53,7 +53,7 @@ fn counted(t: Tally, a: calls::Answer) -> Tally {
     }
 }
 
-// Up and Down at every arbiter.
+// Up and Down at every arbiter. Not one with `clear`: that makes another call.
 fn collect(t: Tally, s: usize) -> Tally {
     let mut next = t;
     for j in 0..records::STATIONS {

@@ -20,6 +20,7 @@ pub enum MessageKind {
 }
 
 // A message that reaches a station's own arbiter: the stock, the station that sent it, the number of the message, and the units of a REQUEST.
+// A number for the message: the C interface.
 #[repr(C)]
 #[derive(Clone, Copy)]
 pub struct Arrival {
@@ -29,7 +30,7 @@ pub struct Arrival {
     pub units: usize,
 }
 
-// What C is answered: the refusal, and the set of stations granted.
+// What C is answered: the refusal, and the set of stations granted. Numbers: the C interface.
 #[repr(C)]
 #[derive(Clone, Copy)]
 pub struct Reply {

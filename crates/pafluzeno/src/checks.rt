@@ -8,7 +8,7 @@ use quorum::{Accepted, MOST_STATIONS, Rejected};
 use refusals::Refusal;
 use stations::PLACES;
 
-// What the check answers. The family is the first `size` places of its array.
+// What the check answers, in numbers, and the family in the first `size` places of an array: the C interface.
 #[repr(C)]
 #[derive(Clone, Copy)]
 pub struct Checked {
@@ -19,7 +19,7 @@ pub struct Checked {
     pub family: [u8; MOST_STATIONS],
 }
 
-// A member of a set, and how many members lie above it; 16 stands for none.
+// A member of a set, and how many members lie above it; 16 stands for none: the C interface.
 #[repr(C)]
 #[derive(Clone, Copy)]
 pub struct NextMember {

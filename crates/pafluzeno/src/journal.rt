@@ -16,7 +16,7 @@ pub struct Part {
     pub len: usize,
 }
 
-// What the record reader answers: the refusal, the record, and the bytes that lie before what is handed on.
+// What the record reader answers: the refusal, the record, and the bytes that lie before what is handed on. Numbers: the C interface.
 #[repr(C)]
 #[derive(Clone, Copy)]
 pub struct ReadRecord {

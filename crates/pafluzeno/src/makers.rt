@@ -8,7 +8,7 @@ ghost use Rattle.pafluzeno.specs.Made.{said};
 
 use refusals::Refusal;
 
-// What the maker of a table answers: the refusal, and the number of quorums written, 0 on a refusal.
+// What the maker of a table answers: the refusal, and the number of quorums written, 0 on a refusal. Numbers: the C interface.
 #[repr(C)]
 #[derive(Clone, Copy)]
 pub struct Made {

@@ -7,6 +7,7 @@ ghost use Rattle.pafluzeno.specs.Counted.{said};
 use outages::SIZES;
 
 // The refusal, and the counts: the first `size` places of the array, the one of number u for the sets of u stations. All other places are 0.
+// A number and an array with its length: the C interface.
 #[repr(C)]
 #[derive(Clone, Copy)]
 pub struct Counted {

@@ -5,7 +5,8 @@ ghost use Rattle.pafluzeno.specs.Tallies.{amount, tally_of};
 
 use refusals::Refusal;
 
-// A sum in two words: `low`, and `high` times 2^64. No text has records enough to pass it.
+// A sum in two words: `low`, and `high` times 2^64. No text has records enough to pass it. Two words: the C
+// interface.
 #[repr(C)]
 #[derive(Clone, Copy)]
 pub struct Sum {
@@ -13,7 +14,7 @@ pub struct Sum {
     pub high: u64,
 }
 
-// What adding up answers: the refusal, how many records there are, and the sums of `entered` and of `left`.
+// What adding up answers: the refusal, how many records there are, and the sums of `entered` and of `left`. Numbers: the C interface.
 #[repr(C)]
 #[derive(Clone, Copy)]
 pub struct Totals {

@@ -9,7 +9,7 @@ ghost use Rattle.pafluzeno.specs.Writing.{written_of, printed_of};
 use journal_reading::JournalRecord;
 use refusals::Refusal;
 
-// What the record writer answers: the refusal, and the place after the record, on a refusal the given place.
+// What the record writer answers: the refusal, and the place after the record, on a refusal the given place. Numbers: the C interface.
 #[repr(C)]
 #[derive(Clone, Copy)]
 pub struct Written {
@@ -17,7 +17,7 @@ pub struct Written {
     pub place: usize,
 }
 
-// What printing a page answers: the refusal, and the bytes of the page.
+// What printing a page answers: the refusal, and the bytes of the page. Numbers: the C interface.
 #[repr(C)]
 #[derive(Clone, Copy)]
 pub struct Printed {

@@ -5,6 +5,7 @@ use plain::Message;
 use records::Record;
 use std::io;
 
+// The words of the examples' lines alone: no Display of the message.
 fn print_message(rt: &impl Print, m: Message) -> io::Result<()> {
     match m {
         Message::Request(units) => print!(rt; " REQUEST {}", units::number_of(units)),

@@ -2,7 +2,7 @@
 use records::Record;
 use std::io;
 
-// Opens the table on the scratch, and prints the refusal and the record's n.
+// Opens the table on the scratch, and prints the refusal and the record's n. n, k and the quorums stay three, as `open` takes them.
 pub fn open_on(
     rt: &impl Print,
     scratch: &mut [u8],
