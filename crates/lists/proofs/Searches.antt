@@ -2,12 +2,15 @@
 -- Assumes nothing.
 use mathlib.Core.Bool.{Bool, true, false, ◌&&◌, ◌||◌, and_assoc, and-true, or_assoc, or-false}
 use mathlib.Core.List.{List, [], ◌∷◌, ◌++◌, map}
-use mathlib.Core.Logic.{⊎_elim}
+use mathlib.Core.Logic.{◌⊎◌, ⊎_elim, by_cases}
 use mathlib.Core.Path.{◌≡◌, refl, sym, ap, ap₂, ◌∙◌}
-use Prim.Native.Nat.{ℕ, zero, suc, ◌+◌, ◌<◌}
+use Prim.Native.Nat.{ℕ, zero, suc, ◌+◌, ◌≤◌, ◌<◌}
+use native.Mathlib.Decide.{ℕ_discrete}
 use native.Mathlib.Numerals.{add-one}
 use native.Mathlib.Omega.{arith}
+use lib.Dec.{eqb}
 use lib.ListN.{length, get_or}
+use borrow.Author.Tests.{eq-eqb, ne_eqb}
 use Rattle.lists.specs.Search.{any, all, first_of, every_below, some_below}
 use Rattle.lists.proofs.Below.{below_suc}
 use Rattle.lists.proofs.Tests.{clash, and_left, and_right, and_both}
@@ -37,10 +40,13 @@ module _ {A : Type 0} where
   all-at f d (x ∷ xs) e zero h = and_left (f x) (all f xs) e
   all-at f d (x ∷ xs) e (suc i) h = all-at f d xs (and_right (f x) (all f xs) e) i (omega arith)
 
-  -- and all of them
+  -- and all of them, or one that fails
   pub all_true : (f : A → Bool) (d : A) (xs : List A) → ((i : ℕ) → i < length xs → f (get_or xs i d) ≡ true) → all f xs ≡ true
   all_true f d [] h = refl
   all_true f d (x ∷ xs) h = and_both (h 0 (omega arith)) (all_true f d xs (λ i l. h (suc i) (omega arith)))
+
+  pub all-false : (f : A → Bool) (d : A) (xs : List A) (i : ℕ) → i < length xs → f (get_or xs i d) ≡ false → all f xs ≡ false
+  all-false f d xs i h e = false_from_ne_true (all f xs) (λ t. clash (all-at f d xs t i h) e)
 
   -- of two lists joined
   pub all_append : (f : A → Bool) (xs ys : List A) → all f xs ≡ true → all f ys ≡ true → all f (xs ++ ys) ≡ true
@@ -133,3 +139,23 @@ some_same f g (suc n) h = ap₂ ◌||◌ (some_same f g n (λ i p. h i (omega ar
 pub some_first : (f : ℕ → Bool) (n : ℕ) → some_below f (suc n) ≡ (f 0 || some_below (λ i. f (suc i)) n)
 some_first f zero = sym (or-false (f 0))
 some_first f (suc n) = ap (λ (b : Bool). b || f (suc n)) (some_first f n) ∙ or_assoc (f 0) (some_below (λ i. f (suc i)) n) (f (suc n))
+
+-- ---- a loop over the numbers from 0 on, below n, that goes on while f holds
+
+-- the loop is at i, and f holds of every number before
+pub record Tested (f : ℕ → Bool) (n i : ℕ) : Type 0 where
+  pub within : i ≤ n
+  pub every : every_below f i ≡ true
+
+pub tested_none : (f : ℕ → Bool) (n : ℕ) → Tested f n 0
+tested_none f n = record { within = omega arith; every = refl }
+
+pub tested_more : {f : ℕ → Bool} {n i : ℕ} {b : Bool} → Tested f n i → i < n → b ≡ f i → b ≡ true → Tested f n (i + 1)
+tested_more {f} {n} {i} t h p e = record { within = omega arith; every = rw (add-one i) (and_both t.every (sym p ∙ e)) }
+
+-- left at i, by one of two ways: f holds of every number below n if i is n
+pub tested_left : {A B : Type 0} {f : ℕ → Bool} {n i : ℕ} → Tested f n i → (A → f i ≡ false) → (B → n ≤ i) → A ⊎ B → eqb i n ≡ every_below f n
+tested_left {A} {B} {f} {n} {i} t fails end w =
+    by_cases (ℕ_discrete i n)
+    (λ (e : i ≡ n). eq-eqb i n e ∙ sym (ap (every_below f) (sym e) ∙ t.every))
+    (λ (o : i ≡ n → ⊥). ne_eqb i n o ∙ sym (⊎_elim (λ a. every_false f n i (let l = t.within in omega arith) (fails a)) (λ b. absurd (let l = t.within in let m = end b in omega arith)) w))
