@@ -65,3 +65,6 @@ pub withdraw-drops : (n s : ℕ) (a : Arbiter) (len : ℕ) (line : List Entry) �
     → arbiter_of n (record { granted = set a.granted s no_units; len = len; line = line }) ≡ arrived Withdraw s (arbiter_of n a)
 unfolding arbiter_of arrived
 withdraw-drops n s a len line p q e = rw (granted_with n a.granted s no_units p q, e)
+
+-- for the function that stores it
+pub ruleset arriving = (request-passes, request-room, others-room, withdraw-room, request_joins, release_clears)

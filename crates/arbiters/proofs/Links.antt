@@ -1,19 +1,79 @@
--- Of a program that is linked from crates: the table of this crate's functions, and that in a program that has the table, and what the functions name
--- of other crates, each function is there with all that it names. The checker makes both.
+-- Of a program that is linked from crates: the table of the functions of this crate that `deliver` needs, and that in a program that has the table, and
+-- what they name of other crates, `deliver` is there with all that it names. The checker makes the link of each function.
 -- Assumes nothing.
 use mathlib.Core.Bool.{true}
-use prog.Linked.{Tree, World, Holds, in_world}
+use mathlib.Core.Path.{◌≡◌, refl, ◌∙◌}
+use mir.Syntax.{Symbol}
+use prog.Linked.{Entry, Tree, World, Holds, in_world, in_table}
 use prog.LinkedThreads.{HasT}
-use Rattle.arbiters.proofs.TheLink as link
+use Rattle.units.proofs.fits.Symbol as fits
+use Rattle.units.proofs.no_units.Symbol as no_units
+use Rattle.arbiters.proofs.answers.Delivery.granted.Symbol as granted
+use Rattle.arbiters.proofs.answers.Delivery.granted.TheLink as granted-link
 use Rattle.arbiters.proofs.deliver.Symbol as deliver
+use Rattle.arbiters.proofs.delivery.deliver.TheLink as deliver-link
+use Rattle.arbiters.proofs.delivery.all_of.Symbol as all_of-code
+use Rattle.arbiters.proofs.delivery.all_of.TheLink as all_of
+use Rattle.arbiters.proofs.delivery.arrive.Symbol as arrive-code
+use Rattle.arbiters.proofs.delivery.arrive.TheLink as arrive
+use Rattle.arbiters.proofs.delivery.is_of.Symbol as is_of-code
+use Rattle.arbiters.proofs.delivery.is_of.TheLink as is_of
+use Rattle.arbiters.proofs.delivery.is_servable.Symbol as is_servable-code
+use Rattle.arbiters.proofs.delivery.is_servable.TheLink as is_servable
+use Rattle.arbiters.proofs.dropping.forget.Symbol as forget-code
+use Rattle.arbiters.proofs.dropping.forget.TheLink as forget
+use Rattle.arbiters.proofs.service.grant.Symbol as grant-code
+use Rattle.arbiters.proofs.service.grant.TheLink as grant
+use Rattle.arbiters.proofs.service.serve.Symbol as serve-code
+use Rattle.arbiters.proofs.service.serve.TheLink as serve
+use Rattle.arbiters.proofs.service.shifted.Symbol as shifted-code
+use Rattle.arbiters.proofs.service.shifted.TheLink as shifted
 
+-- by the order of their symbols
 abbrev pub table : Tree
-table = link.table
+table =
+    Tree.fork Tree.leaf "arbiters::answers::Delivery::granted" granted-link.entry
+    (Tree.fork Tree.leaf "arbiters::delivery::all_of" all_of.entry
+    (Tree.fork Tree.leaf "arbiters::delivery::arrive" arrive.entry
+    (Tree.fork Tree.leaf "arbiters::delivery::deliver" deliver-link.entry
+    (Tree.fork Tree.leaf "arbiters::delivery::is_of" is_of.entry
+    (Tree.fork Tree.leaf "arbiters::delivery::is_servable" is_servable.entry
+    (Tree.fork Tree.leaf "arbiters::dropping::forget" forget.entry
+    (Tree.fork Tree.leaf "arbiters::service::grant" grant.entry
+    (Tree.fork Tree.leaf "arbiters::service::serve" serve.entry
+    (Tree.fork Tree.leaf "arbiters::service::shifted" shifted.entry Tree.leaf)))))))))
 
--- what the functions name of other crates is there
+-- what they name of other crates is there
 abbrev pub Below : World → Type 0
-Below = link.Below
+Below W = HasT (in_world W) true fits.code × HasT (in_world W) true no_units.code
 
 module _ (W : World) (here : Holds W "arbiters" table) (below : Below W) where
+  forget-linked : HasT (in_world W) true forget-code.code
+  forget-linked = forget.has (in_world W) true (in_table W "arbiters" table here "arbiters::dropping::forget" refl) below.1
+
+  arrive-linked : HasT (in_world W) true arrive-code.code
+  arrive-linked = arrive.has (in_world W) true (in_table W "arbiters" table here "arbiters::delivery::arrive" refl) forget-linked below.1
+
+  is_of-linked : HasT (in_world W) true is_of-code.code
+  is_of-linked = is_of.has (in_world W) true (in_table W "arbiters" table here "arbiters::delivery::is_of" refl)
+
+  all_of-linked : HasT (in_world W) true all_of-code.code
+  all_of-linked = all_of.has (in_world W) true (in_table W "arbiters" table here "arbiters::delivery::all_of" refl) is_of-linked
+
+  is_servable-linked : HasT (in_world W) true is_servable-code.code
+  is_servable-linked = is_servable.has (in_world W) true (in_table W "arbiters" table here "arbiters::delivery::is_servable" refl) all_of-linked
+
+  grant-linked : HasT (in_world W) true grant-code.code
+  grant-linked = grant.has (in_world W) true (in_table W "arbiters" table here "arbiters::service::grant" refl) below.0
+
+  shifted-linked : HasT (in_world W) true shifted-code.code
+  shifted-linked = shifted.has (in_world W) true (in_table W "arbiters" table here "arbiters::service::shifted" refl)
+
+  serve-linked : HasT (in_world W) true serve-code.code
+  serve-linked = serve.has (in_world W) true (in_table W "arbiters" table here "arbiters::service::serve" refl) grant-linked shifted-linked
+
   pub deliver-linked : HasT (in_world W) true deliver.code
-  deliver-linked = link.linked-arbiters::delivery::deliver W here below
+  deliver-linked = deliver-link.has (in_world W) true (in_table W "arbiters" table here "arbiters::delivery::deliver" refl) arrive-linked is_servable-linked serve-linked
+
+  pub granted-linked : HasT (in_world W) true granted.code
+  granted-linked = granted-link.has (in_world W) true (in_table W "arbiters" table here "arbiters::answers::Delivery::granted" refl)

@@ -1,11 +1,12 @@
 -- An arbiter that is told a message: whether its line can be served, the refusals in their order, and what a caller learns of the answer.
 -- Assumes nothing.
-use mathlib.Core.Bool.{true, false, and-false}
+use mathlib.Core.Bool.{Bool, true, false, cond, and-false}
 use mathlib.Core.List.{List, [], ◌∷◌}
 use mathlib.Core.Logic.{⊎_elim}
 use mathlib.Core.Path.{◌≡◌, refl, sym, ap, ◌∙◌}
 use Prim.Native.Nat.{ℕ, ◌≤◌, ◌<◌}
 use native.Mathlib.Omega.{arith}
+use Rattle.std.specs.Prelude.{Ok, Err}
 use lib.Dec.{leb, ltb}
 use lib.ListN.{length, get_or, length-append, get_or-append}
 use borrow.Author.Tests.{le-leb, lt-leb, leb-true, lt-ltb, ltb-true}
@@ -14,8 +15,12 @@ use Rattle.lists.specs.Search.{all}
 use Rattle.lists.proofs.Broken.{number_at, BrokenAt, tests_done, tests_refuse}
 use Rattle.lists.proofs.Cuts.{length_cut, get_or-cut}
 use Rattle.lists.proofs.Searches.{all-at}
-use Rattle.lists.proofs.Tests.{known, and_left, and_right, and_both}
+use Rattle.lists.proofs.Tests.{and_left, and_right, and_both}
+use Rattle.std.proofs.lemmas.Bool.{cases_Bool}
 use Rattle.quorum.specs.Limits.{most_stations}
+use Rattle.refusals.specs.Numbers.{number_of}
+use Rattle.refusals.specs.declared.Refusal.{Refusal}
+use Rattle.refusals.proofs.Outcomes.{some_number}
 use Rattle.units.specs.Units.{request_in}
 use Rattle.units.specs.declared.Units.{Units}
 use Rattle.plain.specs.Arbiter.{arrived, served}
@@ -33,7 +38,7 @@ use Rattle.records.specs.View.{no_entry, arbiter_of}
 use Rattle.records.specs.declared.Arbiter.{Arbiter}
 use Rattle.arbiters.specs.Inner.Ready.{Named, Serves}
 use Rattle.arbiters.specs.Telling.{is_of, servable, Telling, untold, line_full, telling_tests, told_as, telling, told_of}
-use Rattle.arbiters.specs.declared.delivery.Delivery.{Delivery}
+use Rattle.arbiters.specs.declared.answers.Delivery.{Delivery}
 
 -- ---- lines that can be served, as the code tests them
 
@@ -127,44 +132,64 @@ pub record Told (n : ℕ) (stock : Units) (joined : PlainArbiter) (d : Delivery)
   pub short : d.grants ≤ line_places
   pub named : Named n d.grants d.line
 
-module _ (n : ℕ) (stock : Units) (s : ℕ) (m : Message) (a : PlainArbiter) (fit : servable n a ≡ true) (station : s < n) (d : Delivery) (told : told_of n d ≡ telling n stock s m a) where
+module _ (n : ℕ) (stock : Units) (s : ℕ) (m : Message) (a : Arbiter) (fit : servable n (arbiter_of n a) ≡ true) (station : s < n) where
+  abbrev before : PlainArbiter
+  before = arbiter_of n a
+
   abbrev joined : PlainArbiter
-  joined = arrived m s a
+  joined = arrived m s before
 
-  refusal_is : d.refusal ≡ (telling n stock s m a).refusal
-  unfolding told_of
-  refusal_is = ap (λ (t : Telling). t.refusal) told
+  -- of the refusals only 14 is left
+  module _ (r : Refusal) (told : told_of n a (Err r) ≡ telling n stock s m before) where
+    refusal_is : number_of r ≡ (telling n stock s m before).refusal
+    unfolding told_of
+    refusal_is = ap (λ (t : Telling). t.refusal) told
 
-  pub told_full : (d.refusal ≡ 0 → ⊥) → passes line_places joined.line ≡ true
-  told_full some =
-      ⊎_elim (λ (t : passes line_places joined.line ≡ true). t)
-      (λ (f : passes line_places joined.line ≡ false). absurd (some (refusal_is ∙ ap (λ (t : Telling). t.refusal) (telling-done n stock s m a fit station f))))
-      (known (passes line_places joined.line))
+    pub told_full : passes line_places joined.line ≡ true
+    told_full =
+        ⊎_elim (λ (t : passes line_places joined.line ≡ true). t)
+        (λ (f : passes line_places joined.line ≡ false). absurd (some_number r (refusal_is ∙ ap (λ (t : Telling). t.refusal) (telling-done n stock s m before fit station f))))
+        (cases_Bool (passes line_places joined.line))
 
-  told-room : d.refusal ≡ 0 → passes line_places joined.line ≡ false
-  told-room none =
-      ⊎_elim (λ (t : passes line_places joined.line ≡ true). absurd (omega (arith, refusal_is ∙ ap (λ (x : Telling). x.refusal) (telling_full n stock s m a fit station t))))
-      (λ (f : passes line_places joined.line ≡ false). f)
-      (known (passes line_places joined.line))
+    pub told_14 : number_of r ≡ line_full
+    told_14 = refusal_is ∙ ap (λ (t : Telling). t.refusal) (telling_full n stock s m before fit station told_full)
 
-  pub told-done : d.refusal ≡ 0 → Told n stock joined d
-  unfolding told_of
-  told-done none =
-      let room = told-room none in
-      let done = told ∙ telling-done n stock s m a fit station room in
-      let grants : cut no_entry d.grants d.line ≡ (served n stock joined).grants = ap (λ (t : Telling). t.grants) done in
-      let fits = arrived-servable n m s a station fit room in
-      let splits = serve_splits n stock joined.granted joined.line in
-      let long = sym (length-append (served n stock joined).grants (served n stock joined).arbiter.line) ∙ ap length splits in
-      let many = sym (length_cut no_entry d.grants d.line) ∙ ap length grants in
-      let limit = keeps-short line_places (is_of n) joined.line (servable-line n joined fits) in
-      record {
-        room = room;
-        arbiter = ap (λ (t : Telling). t.arbiter) done;
-        grants = grants;
-        short = omega (arith, long, many, limit);
-        named = λ i h.
-            let first = get_or-append (served n stock joined).grants (served n stock joined).arbiter.line no_entry i (omega (arith, many)) in
-            let same = sym (get_or-cut no_entry d.grants d.line i h) ∙ ap (λ (l : List Entry). get_or l i no_entry) grants ∙ sym first ∙ ap (λ (l : List Entry). get_or l i no_entry) splits in
-            rw same (entry_of n joined fits i (omega (arith, long, many)));
-      }
+  module _ (d : Delivery) (told : told_of n a (Ok d) ≡ telling n stock s m before) where
+    no_refusal : 0 ≡ (telling n stock s m before).refusal
+    unfolding told_of
+    no_refusal = ap (λ (t : Telling). t.refusal) told
+
+    told-room : passes line_places joined.line ≡ false
+    told-room =
+        ⊎_elim (λ (t : passes line_places joined.line ≡ true). absurd (omega (arith, no_refusal ∙ ap (λ (x : Telling). x.refusal) (telling_full n stock s m before fit station t))))
+        (λ (f : passes line_places joined.line ≡ false). f)
+        (cases_Bool (passes line_places joined.line))
+
+    pub told-done : Told n stock joined d
+    unfolding told_of
+    told-done =
+        let done = told ∙ telling-done n stock s m before fit station told-room in
+        let grants : cut no_entry d.grants d.line ≡ (served n stock joined).grants = ap (λ (t : Telling). t.grants) done in
+        let fits = arrived-servable n m s before station fit told-room in
+        let splits = serve_splits n stock joined.granted joined.line in
+        let long = sym (length-append (served n stock joined).grants (served n stock joined).arbiter.line) ∙ ap length splits in
+        let many = sym (length_cut no_entry d.grants d.line) ∙ ap length grants in
+        let limit = keeps-short line_places (is_of n) joined.line (servable-line n joined fits) in
+        record {
+          room = told-room;
+          arbiter = ap (λ (t : Telling). t.arbiter) done;
+          grants = grants;
+          short = omega (arith, long, many, limit);
+          named = λ i h.
+              let first = get_or-append (served n stock joined).grants (served n stock joined).arbiter.line no_entry i (omega (arith, many)) in
+              let same = sym (get_or-cut no_entry d.grants d.line i h) ∙ ap (λ (l : List Entry). get_or l i no_entry) grants ∙ sym first ∙ ap (λ (l : List Entry). get_or l i no_entry) splits in
+              rw same (entry_of n joined fits i (omega (arith, long, many)));
+        }
+
+-- ---- for the function that is told
+
+pub has_room : (b : Bool) → 0 ≡ cond b line_full 0 → b ≡ false
+has_room true e = absurd (omega arith)
+has_room false e = refl
+
+pub ruleset delivery_steps = (servable_serves, arrived-servable, telling_full, telling-done, has_room, some_number)

@@ -1,9 +1,11 @@
 -- The arbiter call of the field: a station lends its own arbiter record to one call for each message.
-use Rattle.std.specs.Prelude.{Bool, false, not, List, [], ◌∷◌, ℕ, eqb, leb}
+use Rattle.std.specs.Prelude.{Bool, false, not, List, [], ◌∷◌, ℕ, eqb, leb, Result, Ok, Err}
 use Rattle.lists.specs.Broken.{Test, ◌when◌, first_broken, done_or}
 use Rattle.lists.specs.Search.{any}
 use Rattle.stations.specs.Sets.{set_of}
 use Rattle.quorum.specs.Limits.{most_stations, most_units, up_to}
+use Rattle.refusals.specs.Numbers.{number_of}
+use Rattle.refusals.specs.declared.Refusal.{Refusal}
 use Rattle.units.specs.Units.{request_in, asked_with, units_of}
 use Rattle.units.specs.declared.Units.{Units}
 use Rattle.plain.specs.Arbiter.{arrived, served}
@@ -16,7 +18,7 @@ use Rattle.plain.specs.declared.Message.TheVariants.{Request, Release, Withdraw}
 use Rattle.records.specs.View.{arbiter_of}
 use Rattle.records.specs.declared.Arbiter.{Arbiter}
 use Rattle.arbiters.specs.Telling.{line_full}
-use Rattle.arbiters.specs.declared.Reply.{Reply}
+use Rattle.arbiters.specs.declared.answers.Settled.{Settled}
 use Rattle.arbiters.specs.declared.Upward.{Upward}
 use Rattle.arbiters.specs.declared.Upward.TheVariants.{Request as UpRequest, Release as UpRelease, Withdraw as UpWithdraw}
 
@@ -77,6 +79,7 @@ lent_tests stock s m a =
 unfoldable pub lending : Units → ℕ → Upward → PlainArbiter → Lending
 lending stock s m a = lent_by (first_broken (lent_tests stock s m a)) stock s (sent_up m) a
 
--- what the code's answer and the record that it leaves say
-unfoldable pub lent_of : Reply → Arbiter → Lending
-lent_of r a = record { refusal = r.refusal; granted = r.granted; arbiter = arbiter_of most_stations a }
+-- what the code answers, of the record that was given
+unfoldable pub lent_of : Arbiter → Result Settled Refusal → Lending
+lent_of a (Ok d) = record { refusal = 0; granted = d.granted; arbiter = arbiter_of most_stations d.arbiter }
+lent_of a (Err r) = turned_away (arbiter_of most_stations a) (number_of r)

@@ -1,8 +1,10 @@
 -- What one message makes of an arbiter, whatever its record holds: the arbiter's part of Up, of n stations.
-use Rattle.std.specs.Prelude.{Bool, not, ◌&&◌, List, [], ◌∷◌, ℕ, leb, ltb}
+use Rattle.std.specs.Prelude.{Bool, not, ◌&&◌, List, [], ◌∷◌, ℕ, leb, ltb, Result, Ok, Err}
 use Rattle.lists.specs.Broken.{Test, ◌when◌, first_broken, done_or}
 use Rattle.lists.specs.Cut.{cut}
 use Rattle.quorum.specs.Limits.{most_stations}
+use Rattle.refusals.specs.Numbers.{number_of}
+use Rattle.refusals.specs.declared.Refusal.{Refusal}
 use Rattle.units.specs.declared.Units.{Units}
 use Rattle.plain.specs.Arbiter.{arrived, served}
 use Rattle.plain.specs.Lanes.{line_places, keeps, passes}
@@ -10,7 +12,8 @@ use Rattle.plain.specs.State.{Arbiter as PlainArbiter}
 use Rattle.plain.specs.declared.Entry.{Entry}
 use Rattle.plain.specs.declared.Message.{Message}
 use Rattle.records.specs.View.{no_entry, arbiter_of}
-use Rattle.arbiters.specs.declared.delivery.Delivery.{Delivery}
+use Rattle.records.specs.declared.Arbiter.{Arbiter}
+use Rattle.arbiters.specs.declared.answers.Delivery.{Delivery}
 
 -- an entry of one of the n stations
 abbrev pub is_of : ℕ → Entry → Bool
@@ -45,6 +48,7 @@ told_as n stock s m a = record { refusal = 0; arbiter = (served n stock (arrived
 unfoldable pub telling : ℕ → Units → ℕ → Message → PlainArbiter → Telling
 telling n stock s m a = done_or (told_as n stock s m a) (untold a) (first_broken (telling_tests n s m a))
 
--- what the code's answer says
-unfoldable pub told_of : ℕ → Delivery → Telling
-told_of n d = record { refusal = d.refusal; arbiter = arbiter_of n d.arbiter; grants = cut no_entry d.grants d.line }
+-- what the code answers, of the arbiter that was given
+unfoldable pub told_of : ℕ → Arbiter → Result Delivery Refusal → Telling
+told_of n a (Ok d) = record { refusal = 0; arbiter = arbiter_of n d.arbiter; grants = cut no_entry d.grants d.line }
+told_of n a (Err r) = untold (arbiter_of n a) (number_of r)

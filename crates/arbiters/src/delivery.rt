@@ -1,154 +1,98 @@
 // The arbiter's part of Up: a message arrives, then the line is served.
-ghost use Rattle.std.specs.Prelude.{false, ◌≡◌, ℕ, ◌≤◌, ◌<◌};
-ghost use Rattle.lists.specs.Cut.{cut};
+ghost use Rattle.std.specs.Prelude.{[], ◌∷◌, ◌≡◌, ℕ, ◌≤◌, ◌<◌, IfOk};
+ghost use Rattle.lists.specs.Broken.{◌when◌, first_broken};
 ghost use Rattle.lists.specs.Search.{all};
 ghost use Rattle.plain.specs.Arbiter.{arrived};
 ghost use Rattle.plain.specs.Lanes.{line_places, passes};
 ghost use Rattle.quorum.specs.Limits.{most_stations};
-ghost use Rattle.records.specs.View.{no_entry, arbiter_of};
-ghost use Rattle.arbiters.specs.Telling.{is_of, servable, untold, telling, told_of};
+ghost use Rattle.refusals.specs.Numbers.{refusal_of};
+ghost use Rattle.records.specs.View.{arbiter_of};
+ghost use Rattle.arbiters.specs.Telling.{is_of, servable, line_full, telling, told_of};
 
-use crate::{dropping, service};
+use crate::{Delivery, dropping, service};
 use plain::{Entry, Message};
 use records::{Arbiter, LINE_PLACES, STATIONS};
+use refusals::Refusal;
 use units::Units;
 
-// What a message makes of an arbiter. Granted are the first entries of the line. A refusal grants nothing and hands back the arbiter that was
-// given.
-#[derive(Clone, Copy)]
-pub struct Delivery {
-    pub refusal: u8,
-    pub arbiter: Arbiter,
-    pub grants: usize,
-    pub line: [Entry; LINE_PLACES],
-}
-
-#[derive(Clone, Copy)]
-pub(crate) struct Arrived {
-    pub full: bool,
-    pub arbiter: Arbiter,
-}
-
-fn is_of(e: Entry, n: usize) -> bool
+pub(crate) fn is_of(e: Entry, n: usize) -> bool
     ensures { result ≡ is_of n e }
 {
     (e.station as usize) < n
 }
 
-fn all_of(line: [Entry; LINE_PLACES], len: usize, n: usize) -> bool
-    requires { len ≤ line_places }
-    ensures { result ≡ all (is_of n) (cut no_entry len line) }
+pub(crate) fn all_of(line: &[Entry], n: usize) -> bool
+    ensures { result ≡ all (is_of n) line.now }
 {
-    let mut i: usize = 0;
-    while i < len && is_of(line[i], n) {
-        i += 1;
+    // no `all`: the program that `program-has` of `claim` is of has no function of the library
+    for e in line {
+        if !is_of(*e, n) {
+            return false;
+        }
     }
-    i == len
+    true
 }
 
 // The line alone is looked at: no other part of an arbiter can lead out of the arrays.
-fn is_servable(a: Arbiter, n: usize) -> bool
-    ensures { result ≡ servable n (arbiter_of n a) }
+#[tactic(auto, using(crate::proofs::TellingArbiter::too_many, crate::proofs::TellingArbiter::too_long, crate::proofs::TellingArbiter::by_entries, lists::proofs::Slices::front_cut, std::proofs::lemmas::Grind::common_steps))]
+pub(crate) fn is_servable(a: &Arbiter, n: usize) -> bool
+    ensures { result ≡ servable n (arbiter_of n a.now) }
 {
-    if STATIONS < n {
-        return false;
-    }
     let len = a.len as usize;
     if LINE_PLACES < len {
         return false;
     }
-    let line = a.line;
-    all_of(line, len, n)
-}
-
-fn refuse(a: Arbiter, refusal: u8) -> Delivery
-    ensures told { (n : ℕ) → told_of n result ≡ untold (arbiter_of n a) refusal }
-    ensures same { result.arbiter ≡ a }
-{
-    let line = a.line;
-    Delivery {
-        refusal,
-        arbiter: a,
-        grants: 0,
-        line,
-    }
+    n <= STATIONS && all_of(&a.line[..len], n)
 }
 
 // REQUEST joins the line, unless that is full; RELEASE clears the station's units; WITHDRAW clears them and drops its entries.
-fn arrive(a: Arbiter, s: usize, m: Message) -> Arrived
+// That the line fits its array is asked here, of `forget` and of `serve`, and is no type's: C fills an `Arbiter` with anything.
+#[tactic(auto, using(crate::proofs::ArrivingMessage::arriving, records::proofs::Good::line_of, records::proofs::Good::granted_of_lem, std::proofs::lemmas::Grind::common_steps), unfolding(plain::specs::Arbiter::arrived))]
+pub(crate) fn arrive(mut a: Arbiter, s: usize, m: Message) -> Result<Arbiter, Refusal>
     requires { (s < most_stations) × (a.len ≤ line_places) }
-    ensures full { (n : ℕ) → result.full ≡ passes line_places (arrived m s (arbiter_of n a)).line }
-    ensures arbiter { result.full ≡ false → (n : ℕ) → s < n → arbiter_of n result.arbiter ≡ arrived m s (arbiter_of n a) }
+    ensures refusal { (n : ℕ) → refusal_of result ≡ first_broken (line_full when passes line_places (arrived m s (arbiter_of n a)).line ∷ []) }
+    ensures arbiter { (n : ℕ) → s < n → IfOk result (λ next. arbiter_of n next ≡ arrived m s (arbiter_of n a)) }
 {
     match m {
         Message::Request(h) => {
-            let len = a.len;
-            let at = len as usize;
+            let at = a.len as usize;
             if LINE_PLACES <= at {
-                return Arrived {
-                    full: true,
-                    arbiter: a,
-                };
+                return Err(Refusal::NoPlace);
             }
-            let mut next = a;
-            let e = Entry {
+            a.line[at] = Entry {
                 station: s as u8,
                 units: h,
             };
-            next.line[at] = e;
-            next.len = len + 1;
-            Arrived {
-                full: false,
-                arbiter: next,
-            }
+            a.len += 1;
         }
-        Message::Release => {
-            let mut next = a;
-            let none = units::no_units();
-            next.granted[s] = none;
-            Arrived {
-                full: false,
-                arbiter: next,
-            }
-        }
-        Message::Grant => Arrived {
-            full: false,
-            arbiter: a,
-        },
-        Message::Withdraw => Arrived {
-            full: false,
-            arbiter: dropping::forget(a, s),
-        },
-        Message::Gone => Arrived {
-            full: false,
-            arbiter: a,
-        },
+        Message::Release => a.granted[s] = units::no_units(),
+        Message::Withdraw => a = dropping::forget(a, s),
+        Message::Grant | Message::Gone => {}
     }
+    Ok(a)
 }
 
 // The message m of station s reaches an arbiter of n stations with this stock. Any caller may give any of them.
-pub fn deliver(a: Arbiter, n: usize, stock: Units, s: usize, m: Message) -> Delivery
-    ensures told { told_of n result ≡ telling n stock s m (arbiter_of n a) }
-    ensures refused { 0 < result.refusal → result.arbiter ≡ a }
+#[tactic(auto, using(crate::proofs::TellingArbiter::delivery_steps, std::proofs::lemmas::Grind::common_steps), unfolding(crate::specs::Telling::told_of, crate::specs::Telling::telling))]
+pub fn deliver(
+    a: &Arbiter,
+    n: usize,
+    stock: Units,
+    s: usize,
+    m: Message,
+) -> Result<Delivery, Refusal>
+    ensures { told_of n a.now result ≡ telling n stock s m (arbiter_of n a.now) }
 {
     if !is_servable(a, n) {
-        return refuse(a, refusals::OUT_OF_RANGE);
+        return Err(Refusal::OutOfRange);
     }
     if n <= s {
-        return refuse(a, refusals::NO_SUCH_STATION);
+        return Err(Refusal::NoSuchStation);
     }
-    let arrival = arrive(a, s, m);
-    if arrival.full {
-        return refuse(a, refusals::NO_PLACE);
-    }
-    let b = arrival.arbiter;
-    let line = b.line;
-    let service = service::serve(b, n, stock);
-    let last = service.arbiter;
-    Delivery {
-        refusal: refusals::NO_REFUSAL,
-        arbiter: last,
-        grants: service.grants,
-        line,
-    }
+    // no `?`: the program that `program-has` of `claim` is of has no function of the library
+    let joined = match arrive(*a, s, m) {
+        Ok(joined) => joined,
+        Err(refusal) => return Err(refusal),
+    };
+    Ok(service::serve(joined, n, stock))
 }

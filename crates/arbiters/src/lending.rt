@@ -1,113 +1,76 @@
-// What the call for one message makes of a station's own arbiter record, by value.
-ghost use Rattle.std.specs.Prelude.{true, ◌≡◌, ◌≤◌, ◌<◌};
-ghost use Rattle.lists.specs.Cut.{cut};
-ghost use Rattle.quorum.specs.Limits.{most_stations};
-ghost use Rattle.plain.specs.InRange.{arbiter_in};
-ghost use Rattle.plain.specs.Lanes.{line_places};
-ghost use Rattle.records.specs.View.{no_entry, arbiter_of};
-ghost use Rattle.units.specs.Units.{stock_of as stock_of_rule};
-ghost use Rattle.arbiters.specs.Inner.Ready.{delivering};
-ghost use Rattle.arbiters.specs.Lent.{is_granted as is_granted_rule, granted_set as granted_set_rule, turned_away, lending, lent_of};
+// What the call for one message makes of a station's own arbiter record, which it is lent.
+ghost use Rattle.std.specs.Prelude.{true, false, ◌≡◌, ◌≤◌, MatchResult};
+ghost use Rattle.quorum.specs.Limits.{most_stations, most_units};
+ghost use Rattle.records.specs.View.{arbiter_of};
+ghost use Rattle.units.specs.Units.{stock_of as stock_of_rule, asked_with};
+ghost use Rattle.arbiters.specs.Lent.{is_granted as is_granted_rule, granted_set as granted_set_rule, bad_units, sent_up, lending, lent_of};
 
-use crate::{Incoming, Reply, Settled, Upward, delivery};
+use crate::{Incoming, Settled, Upward, delivery};
 use plain::{Entry, Message};
-use records::{Arbiter, LINE_PLACES, STATIONS};
+use records::{Arbiter, STATIONS};
+use refusals::Refusal;
 use units::Units;
 
-// Whether station t is among the first entries of the line.
-fn is_granted(line: [Entry; LINE_PLACES], grants: usize, t: usize) -> bool
-    requires { grants ≤ line_places }
-    ensures { result ≡ is_granted_rule (cut no_entry grants line) t }
+// Whether station t is among those of the entries granted.
+fn is_granted(granted: &[Entry], t: usize) -> bool
+    ensures { result ≡ is_granted_rule granted.now t }
 {
-    let mut i: usize = 0;
-    while i < grants {
-        let e = line[i];
-        if e.station as usize == t {
-            return true;
-        }
-        i += 1;
-    }
-    false
+    granted.iter().any(|e| e.station as usize == t)
 }
 
-// The stations of the first entries of the line, as a set.
-fn granted_set(line: [Entry; LINE_PLACES], grants: usize) -> u16
-    requires { grants ≤ line_places }
-    ensures { result ≡ granted_set_rule (cut no_entry grants line) }
+// The stations of the entries granted, as a set.
+#[tactic(auto, using(stations::proofs::Built::set_pass, stations::proofs::Built::set_fail, stations::proofs::Built::set_below, stations::proofs::Built::only_below, std::proofs::lemmas::Grind::common_steps), unfolding(stations::specs::Sets::set_of))]
+fn granted_set(granted: &[Entry]) -> u16
+    ensures { result ≡ granted_set_rule granted.now }
 {
-    let mut set: u16 = 0;
-    let mut t: usize = 0;
-    while t < STATIONS {
-        if is_granted(line, grants, t) {
+    let mut set = 0;
+    for t in 0..STATIONS {
+        if is_granted(granted, t) {
             set += stations::only(t);
         }
-        t += 1;
     }
     set
 }
 
-fn refuse_lent(a: Arbiter, refusal: u8) -> Settled
-    ensures answer { lent_of result.reply result.arbiter ≡ turned_away (arbiter_of most_stations a) refusal }
-    ensures same { result.arbiter ≡ a }
+// The message in the machine's own form; a REQUEST asks for units in 1..k.
+#[tactic(auto, using(crate::proofs::LendingArbiter::stored_units, std::proofs::lemmas::Grind::common_steps))]
+fn sent(m: Upward, stock: Units) -> Result<Message, Refusal>
+    requires { asked_with stock ≤ most_units }
+    ensures { MatchResult result (λ up. (bad_units stock m ≡ false) × (up ≡ sent_up m)) (λ r. (bad_units stock m ≡ true) × (r ≡ Refusal.BadUnits)) }
 {
-    Settled {
-        reply: Reply {
-            refusal,
-            granted: 0,
-        },
-        arbiter: a,
-    }
-}
-
-// The message has passed all tests but that of the line's limit.
-fn deliver_lent(a: Arbiter, stock: Units, s: usize, m: Message) -> Settled
-    requires { (arbiter_in most_stations stock (arbiter_of most_stations a) ≡ true) × (s < most_stations) }
-    ensures answer { lent_of result.reply result.arbiter ≡ delivering stock s m (arbiter_of most_stations a) }
-    ensures refused { 0 < result.reply.refusal → result.arbiter ≡ a }
-{
-    let delivery = delivery::deliver(a, STATIONS, stock, s, m);
-    if delivery.refusal != refusals::NO_REFUSAL {
-        return refuse_lent(a, refusals::NO_PLACE); // the only one left
-    }
-    let line = delivery.line;
-    let after = delivery.arbiter;
-    let granted = granted_set(line, delivery.grants);
-    Settled {
-        reply: Reply {
-            refusal: refusals::NO_REFUSAL,
-            granted,
-        },
-        arbiter: after,
-    }
-}
-
-// A message of a station, whose stock and number any caller may give: the arbiter's part of Up on its record, by value. A refusal answers the
-// empty set and changes nothing.
-pub fn settle(a: Arbiter, i: Incoming) -> Settled
-    ensures { (lent_of result.reply result.arbiter ≡ lending (stock_of_rule i.stock) i.station i.message (arbiter_of most_stations a)) × (0 < result.reply.refusal → result.arbiter ≡ a) }
-{
-    let k = i.stock;
-    let s = i.station;
-    let stock = units::stock_of(k);
-    if !quorum::limits::up_to(quorum::MOST_UNITS, units::asked_with(stock)) {
-        return refuse_lent(a, refusals::BAD_STOCK);
-    }
-    if !records::arbiter_in_range(a, STATIONS, stock) {
-        return refuse_lent(a, refusals::OUT_OF_RANGE);
-    }
-    if STATIONS <= s {
-        return refuse_lent(a, refusals::NO_SUCH_STATION);
-    }
-    let m = i.message;
     match m {
         Upward::Request(h) => {
             let u = units::units_of(h);
             if !units::request_in(stock, u) {
-                return refuse_lent(a, refusals::BAD_UNITS);
+                return Err(Refusal::BadUnits);
             }
-            deliver_lent(a, stock, s, Message::Request(u))
+            Ok(Message::Request(u))
         }
-        Upward::Release => deliver_lent(a, stock, s, Message::Release),
-        Upward::Withdraw => deliver_lent(a, stock, s, Message::Withdraw),
+        Upward::Release => Ok(Message::Release),
+        Upward::Withdraw => Ok(Message::Withdraw),
     }
+}
+
+// A message of a station, whose stock and number any caller may give: the arbiter's part of Up on its record. A refusal leaves the record as it
+// was, since it is only lent.
+#[tactic(auto, using(crate::proofs::LendingArbiter::settle_steps, std::proofs::lemmas::Grind::common_steps), unfolding(crate::specs::Lent::lent_of, crate::specs::Lent::lending, crate::specs::Lent::lent_by))]
+pub fn settle(a: &Arbiter, i: Incoming) -> Result<Settled, Refusal>
+    ensures { lent_of a.now result ≡ lending (stock_of_rule i.stock) i.station i.message (arbiter_of most_stations a.now) }
+{
+    let stock = units::stock_of(i.stock);
+    if !quorum::limits::up_to(quorum::MOST_UNITS, units::asked_with(stock)) {
+        return Err(Refusal::BadStock);
+    }
+    if !records::arbiter_in_range(a, STATIONS, stock) {
+        return Err(Refusal::OutOfRange);
+    }
+    if STATIONS <= i.station {
+        return Err(Refusal::NoSuchStation);
+    }
+    let m = sent(i.message, stock)?;
+    let delivery = delivery::deliver(a, STATIONS, stock, i.station, m)?;
+    Ok(Settled {
+        granted: granted_set(delivery.granted()),
+        arbiter: delivery.arbiter,
+    })
 }

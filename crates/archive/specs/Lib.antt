@@ -1,4 +1,3 @@
 pub mod OwnSteps
 pub mod Tallies
 pub mod AddedUp
-pub mod Inner

@@ -1,17 +1,16 @@
 -- A station asks a member of its quorum, on a record; and Request, which asks the lowest.
 -- Assumes nothing.
 use mathlib.Core.Bool.{true, false}
-use mathlib.Core.List.{◌∷◌, []}
 use mathlib.Core.Logic.{⊎_elim}
 use mathlib.Core.Path.{◌≡◌, sym, ap, ap₂, ◌∙◌}
-use Prim.Native.Nat.{ℕ, ◌≤◌, ◌<◌}
+use Prim.Native.Nat.{ℕ, ◌<◌}
 use native.Mathlib.Omega.{arith}
-use lib.ListN.{length, get_or, take, drop, length-append}
-use borrow.Author.Tests.{lt-ltb, le-ltb}
+use Rattle.std.specs.Prelude.{None}
+use lib.ListN.{length, get_or, take, drop}
 use Rattle.lists.specs.At.{at2}
 use Rattle.lists.proofs.Broken.{first_later}
-use Rattle.lists.proofs.Tests.{known}
-use Rattle.stations.specs.Sets.{lowest_from, members_above, next_from}
+use Rattle.std.proofs.lemmas.Bool.{cases_Bool}
+use Rattle.stations.specs.Sets.{lowest_from, members_above, next_from, said}
 use Rattle.stations.specs.declared.NextMember.{NextMember}
 use Rattle.stations.proofs.Above.{next-member, next-above}
 use Rattle.units.specs.declared.Units.{Units}
@@ -21,27 +20,18 @@ use Rattle.plain.specs.Inner.Passed.{Requests}
 use Rattle.plain.specs.Lanes.{up_places, no_place, passes, sent}
 use Rattle.plain.specs.Request.{lowest, request_tests, request_refusal, requested, request_returns, request}
 use Rattle.plain.specs.State.{State}
-use Rattle.plain.specs.declared.Message.{Message}
 use Rattle.plain.specs.declared.Message.TheVariants.{Request}
 use Rattle.plain.specs.declared.Phase.TheVariants.{Collecting}
 use Rattle.plain.proofs.Approaching.{first_member}
 use Rattle.plain.proofs.Passed.{request_kept}
 use Rattle.plain.proofs.Range.{ranged}
-use Rattle.records.specs.View.{lane_of, lanes_of, table_of, view}
-use Rattle.records.specs.declared.Lane.{Lane}
+use Rattle.records.specs.View.{lanes_of, table_of, view}
 use Rattle.records.specs.declared.Lanes.{Lanes}
 use Rattle.records.specs.declared.Record.{Record}
 use Rattle.records.proofs.Storing.{store_phase, store_up, phase-stored}
-use Rattle.records.proofs.Viewing.{lane-length, quorum-at}
+use Rattle.records.proofs.Viewing.{quorum-at}
 use Rattle.calls.specs.Inner.Parts.{ask_answer}
-use Rattle.calls.proofs.RecordInRange.{table-length}
-
--- a lane with one message more, and its limit
-pub lane_full : (limit : ℕ) (l : Lane) (m : Message) → limit ≤ l.len → passes limit (sent (lane_of l) m) ≡ true
-lane_full limit l m h = lt-ltb limit (length (sent (lane_of l) m)) (rw (length-append (lane_of l) (m ∷ []), lane-length l) (omega arith))
-
-pub lane_room : (limit : ℕ) (l : Lane) (m : Message) → l.len < limit → passes limit (sent (lane_of l) m) ≡ false
-lane_room limit l m h = le-ltb limit (length (sent (lane_of l) m)) (rw (length-append (lane_of l) (m ∷ []), lane-length l) (omega arith))
+use Rattle.calls.proofs.RecordInRange.{table-length, few}
 
 -- ---- by the room in the lane
 
@@ -56,29 +46,27 @@ module _ (st : State) (s q : ℕ) (h : Units) (m above : ℕ) where
 
   -- what is learnt of the room from the answer
   module _ (a : Answer) (is : a ≡ ask_answer st s q h m above) where
-    pub was_full : (a.refusal ≡ 0 → ⊥) → ask_passes st s h m ≡ true
-    was_full some =
-        ⊎_elim (λ t. t) (λ (f : ask_passes st s h m ≡ false). absurd (some (ap (λ (x : Answer). x.refusal) (is ∙ ask_room f)))) (known (ask_passes st s h m))
+    pub asked-full : (a.refusal ≡ 0 → ⊥) → ask_passes st s h m ≡ true
+    asked-full some =
+        ⊎_elim (λ t. t) (λ (f : ask_passes st s h m ≡ false). absurd (some (ap (λ (x : Answer). x.refusal) (is ∙ ask_room f)))) (cases_Bool (ask_passes st s h m))
 
-    pub was_room : a.refusal ≡ 0 → ask_passes st s h m ≡ false
-    was_room none =
-        ⊎_elim (λ (t : ask_passes st s h m ≡ true). absurd (omega (arith, ap (λ (x : Answer). x.refusal) (is ∙ ask_full t)))) (λ f. f) (known (ask_passes st s h m))
+    pub asked-room : a.refusal ≡ 0 → ask_passes st s h m ≡ false
+    asked-room none =
+        ⊎_elim (λ (t : ask_passes st s h m ≡ true). absurd (omega (arith, ap (λ (x : Answer). x.refusal) (is ∙ ask_full t)))) (λ f. f) (cases_Bool (ask_passes st s h m))
 
 -- ---- on a record
 
-module _ (r : Record) (s q : ℕ) (h : Units) (m above : ℕ) (l : Lane) (at-lane : lanes_of r.n r.up s m ≡ lane_of l) where
-  pub lane-asked : up_places ≤ l.len → ask_answer (view r) s q h m above ≡ refused (view r) no_place
+module _ (r : Record) (s q : ℕ) (h : Units) (m above : ℕ) where
+  pub asked_full : passes up_places (sent (lanes_of r.n r.up s m) (Request h)) ≡ true → ask_answer (view r) s q h m above ≡ refused (view r) no_place
   unfolding view
-  lane-asked f = ask_full (view r) s q h m above (rw at-lane (lane_full up_places l (Request h) f))
+  asked_full f = ask_full (view r) s q h m above f
 
-  module _ (lanes : Lanes) (put : lanes_of r.n lanes ≡ at2 (lanes_of r.n r.up) s m (sent (lane_of l) (Request h))) (exists : s < r.n) (long : s < length r.stations) where
-    states : asking (view r) s q h m ≡ view (store_phase s (Collecting q h m) (store_up lanes r))
-    unfolding view
-    states = rw at-lane (sym (phase-stored (store_up lanes r) s (Collecting q h m) exists long ∙ rw put))
-
-    pub asked-goes : l.len < up_places → ask_answer (view r) s q h m above ≡ done (above_only above) (view (store_phase s (Collecting q h m) (store_up lanes r)))
-    unfolding view
-    asked-goes f = ask_room (view r) s q h m above (rw at-lane (lane_room up_places l (Request h) f)) ∙ ap (done (above_only above)) states
+  pub asked-goes : (lanes : Lanes) → passes up_places (sent (lanes_of r.n r.up s m) (Request h)) ≡ false → s < r.n → s < length r.stations
+      → lanes_of r.n lanes ≡ at2 (lanes_of r.n r.up) s m (sent (lanes_of r.n r.up s m) (Request h))
+      → ask_answer (view r) s q h m above ≡ done (above_only above) (view (store_phase s (Collecting q h m) (store_up lanes r)))
+  unfolding view
+  asked-goes lanes f exists long put =
+      ask_room (view r) s q h m above f ∙ ap (done (above_only above)) (sym (phase-stored (store_up lanes r) s (Collecting q h m) exists long ∙ rw put))
 
 -- ---- Request asks the lowest member
 
@@ -108,3 +96,7 @@ module _ (r : Record) (s q : ℕ) (h : Units) (passed : Requests (view r) s q h)
       let member = sym (next-member set 0 next found) in
       asks-lowest (view r) s q h passed
       ∙ ap₂ (ask_answer (view r) s q h) (lowest_is ∙ member) (ap₂ members_above (quorum-at r q exists) (lowest_is ∙ member) ∙ sym (next-above set 0 next found))
+
+  -- there is a lowest member
+  pub some-next : said None ≡ next_from (get_or r.table q 0) 0 → ⊥
+  some-next e = absurd (omega (arith, next-member (get_or r.table q 0) 0 (said None) e, lowest-station, few r passed.range))

@@ -1,30 +1,35 @@
 -- Release on a record, from the facts that its parts give; and what it shares with Withdraw.
 -- Assumes nothing.
-use mathlib.Core.Bool.{Bool, true, false}
+use mathlib.Core.Bool.{true, false, not}
 use mathlib.Core.List.{List}
-use mathlib.Core.Path.{◌≡◌, refl, sym, ◌∙◌}
-use Prim.Native.Nat.{ℕ, ◌<◌}
+use mathlib.Core.Path.{◌≡◌, refl, sym, ap, ◌∙◌}
+use Prim.Native.Nat.{ℕ, ◌<◌, ◌^◌}
+use native.Mathlib.Omega.{arith}
 use lib.ListN.{length, get_or, set}
 use Rattle.lists.specs.At.{at}
 use Rattle.lists.specs.Search.{some_below}
+use Rattle.lists.proofs.Cuts.{length_cut}
 use Rattle.quorum.specs.Family.{quorum}
+use Rattle.quorum.specs.Limits.{most_quorums}
 use Rattle.units.specs.declared.Units.{Units}
-use Rattle.plain.specs.Answer.{Answer, left_only, refused, done}
+use Rattle.plain.specs.Answer.{left_only, refused, done}
 use Rattle.plain.specs.Inner.Passed.{Releases}
 use Rattle.plain.specs.Lanes.{no_place}
-use Rattle.plain.specs.Release.{releasing, release_passes, given_back, release}
+use Rattle.plain.specs.Release.{is_holding, releasing, release_passes, given_back, release}
 use Rattle.plain.specs.Updates.{with_phase, with_ups}
 use Rattle.plain.specs.declared.Message.{Message}
 use Rattle.plain.specs.declared.Phase.{Phase}
-use Rattle.plain.specs.declared.Phase.TheVariants.{Idle}
-use Rattle.plain.proofs.Passed.{release_full, release-done}
+use Rattle.plain.specs.declared.Phase.TheVariants.{Idle, Holding}
+use Rattle.plain.proofs.Passed.{release_full, release-done, release-refused}
 use Rattle.records.specs.View.{no_row, row_of, view}
 use Rattle.records.specs.declared.Record.{Record}
 use Rattle.records.specs.declared.Row.{Row}
 use Rattle.records.proofs.Storing.{store_phase, store_up, phase-stored}
-use Rattle.records.proofs.Viewing.{quorum-at, phases_at, rows_at, rows_with}
-use Rattle.calls.specs.Inner.Parts.{row_answer}
-use Rattle.calls.proofs.RecordInRange.{holds}
+use Rattle.records.proofs.Viewing.{quorum-at, rows_at, rows_with}
+use Rattle.calls.specs.Inner.Parts.{Stands}
+use Rattle.calls.proofs.LastArms.{not-holding}
+use Rattle.calls.proofs.RecordInRange.{limits, quorums-few, holds}
+use Rattle.calls.proofs.StationTests.{station_kept, phase_read, phase_is}
 
 -- ---- what both do
 
@@ -42,30 +47,42 @@ unfolding view
 row_stored r s p row station stations rows =
     phase-stored (store_up (record { rows = set r.up.rows s row }) r) s p station stations ∙ rw (rows_with r.n r.up s row station rows)
 
--- the call tests `full` of the quorum and the lanes, and makes `goes` of them
-module _ (r : Record) (s q : ℕ) (station : s < r.n) (exists : q < r.quorums) (full : ℕ → (ℕ → List Message) → Bool) (goes : ℕ → (ℕ → List Message) → ℕ → List Message)
-    (p : Phase) (left : Units) (call : Answer) where
-  pub row_answer_lem : (full (quorum (view r).table q) ((view r).up s) ≡ true → call ≡ refused (view r) no_place)
-      → (full (quorum (view r).table q) ((view r).up s) ≡ false
-      → call ≡ done (left_only left) (with_phase s p (with_ups (at (view r).up s (goes (quorum (view r).table q) ((view r).up s))) (view r))))
-      → (b : Bool) (lanes : ℕ → List Message) → b ≡ full (set_of_lem r q) (lanes_of_lem r s) → (b ≡ false → lanes ≡ goes (set_of_lem r q) (lanes_of_lem r s))
-      → row_answer (view r) s b lanes p left ≡ call
+-- the quorum and the lanes are those that the plain machine reads
+module _ (r : Record) (s q : ℕ) (station : s < r.n) (exists : q < r.quorums) where
+  pub as-read : (P : ℕ → (ℕ → List Message) → Type 0) → P (set_of_lem r q) (lanes_of_lem r s) → P (quorum (view r).table q) ((view r).up s)
   unfolding view
-  row_answer_lem is-full is_done_lem true lanes tests made =
-      sym (is-full (rw (quorum-at r q exists, rows_at r.n r.up s station) (sym tests)))
-  row_answer_lem is-full is_done_lem false lanes tests made =
-      rw (made refl) (sym (rw (quorum-at r q exists, rows_at r.n r.up s station) at (is_done_lem (rw (quorum-at r q exists, rows_at r.n r.up s station) (sym tests)))))
+  as-read P p = rw (quorum-at r q exists, rows_at r.n r.up s station) p
 
 -- ---- Release
 
-module _ (r : Record) (s q : ℕ) (h : Units) (releases : Releases (view r) s q h) where
-  pub exists : q < r.quorums
-  unfolding view
-  exists = holds r releases.range s releases.station (sym (phases_at r.n r.stations s releases.station) ∙ releases.holding)
+module _ (r : Record) (s : ℕ) (stands : Stands r s) where
+  -- 12
+  pub holds-nothing : ((q : ℕ) (h : Units) → phase_read r s stands ≡ Holding q h → ⊥) → release (view r) s ≡ refused (view r) 12
+  holds-nothing none =
+      release-refused (view r) s 2 (station_kept r s stands, ap (λ (p : Phase). not (is_holding p)) (phase_is r s stands) ∙ not-holding (phase_read r s stands) none) refl
 
-  pub gives_back : (b : Bool) (lanes : ℕ → List Message) → b ≡ some_below (release_passes (set_of_lem r q) (lanes_of_lem r s)) r.n → (b ≡ false → lanes ≡ releasing (set_of_lem r q) (lanes_of_lem r s))
-      → row_answer (view r) s b lanes Idle h ≡ release (view r) s
-  unfolding view given_back
-  gives_back =
-      row_answer_lem r s q releases.station exists (λ set lanes. some_below (release_passes set lanes) r.n) releasing Idle h (release (view r) s)
-      (λ f. release_full (view r) s releases f) (λ f. release-done (view r) s releases f)
+  module _ (q : ℕ) (h : Units) (holding : phase_read r s stands ≡ Holding q h) where
+    abbrev releases : Releases (view r) s q h
+    unfolding view
+    releases = record { range = stands.range; station = stands.station; holding = phase_is r s stands ∙ holding }
+
+    exists : q < r.quorums
+    exists = holds r stands.range s stands.station holding
+
+    pub held-number : q < most_quorums
+    held-number = omega (arith, exists, quorums-few r stands.range)
+
+    pub held-set : set_of_lem r q < 2 ^ r.n
+    held-set = rw (quorum-at r q exists) at ((limits r stands.range).members q (omega (arith, exists, length_cut 0 r.quorums r.table))).1
+
+    pub full_back : some_below (release_passes (set_of_lem r q) (lanes_of_lem r s)) r.n ≡ true → release (view r) s ≡ refused (view r) no_place
+    unfolding view
+    full_back f = release_full (view r) s releases (as-read r s q stands.station exists (λ set lanes. some_below (release_passes set lanes) r.n ≡ true) f)
+
+    pub goes_back : (row : Row) → some_below (release_passes (set_of_lem r q) (lanes_of_lem r s)) r.n ≡ false → row_of r.n row ≡ releasing (set_of_lem r q) (lanes_of_lem r s)
+        → release (view r) s ≡ done (left_only h) (with_phase s Idle (with_ups (at (view r).up s (row_of r.n row)) (view r)))
+    unfolding view given_back
+    goes_back row f goes =
+        release-done (view r) s releases (as-read r s q stands.station exists (λ set lanes. some_below (release_passes set lanes) r.n ≡ false) f)
+        ∙ ap (λ (lanes : ℕ → List Message). done (left_only h) (with_phase s Idle (with_ups (at (view r).up s lanes) (view r))))
+        (as-read r s q stands.station exists (λ set lanes. releasing set lanes ≡ row_of r.n row) (sym goes))

@@ -2,7 +2,7 @@
 -- Assumes nothing.
 use mathlib.Core.Bool.{true}
 use mathlib.Core.List.{List}
-use mathlib.Core.Path.{◌≡◌, sym, ap, ◌∙◌}
+use mathlib.Core.Path.{◌≡◌, refl, sym, ap, ◌∙◌}
 use Prim.Native.Nat.{ℕ, suc, ◌+◌, ◌≤◌, ◌<◌, ◌^◌}
 use native.Mathlib.Numerals.{add-one}
 use native.Mathlib.Omega.{arith}
@@ -20,6 +20,7 @@ use Rattle.plain.specs.Down.{Taken, onward, taken}
 use Rattle.plain.specs.declared.Phase.{Phase}
 use Rattle.plain.specs.declared.Phase.TheVariants.{Idle, Collecting, Holding, Withdrawing}
 use Rattle.calls.specs.Inner.Takings.{within}
+use Rattle.calls.specs.declared.asking.Wish.{Wish}
 use Rattle.calls.specs.declared.downs.Taking.{Taking}
 use Rattle.calls.specs.declared.downs.Taking.TheVariants.{Asks}
 
@@ -41,34 +42,30 @@ module _ (table : List ℕ) (q : ℕ) (h : Units) (j set : ℕ) (is : quorum tab
     onward-asks = rw (above, lt-ltb next.member places l)
 
     -- a station that is asked is one of the n, with so many members above it
-    pub asks-within : (n : ℕ) → set < 2 ^ n → within n table (Asks q h next.member next.above) ≡ true
+    pub asks-within : (n : ℕ) → set < 2 ^ n → within n table (Asks (record { quorum = q; units = h; member = next.member; above = next.above })) ≡ true
     asks-within n small =
         let lowest = next-member set (j + 1) next found in
         and_both (lt-ltb next.member n (omega (arith, lowest-below n set (j + 1) small (omega (arith, lowest)))))
         (eq-eqb next.above (members_above (quorum table q) next.member) (next-above set (j + 1) next found ∙ ap (λ (x : ℕ). members_above x next.member) (sym is)))
 
-pub asked-within : (n : ℕ) (table : List ℕ) {t : Taking} {q : ℕ} {h : Units} {m a : ℕ} → t ≡ Asks q h m a → within n table t ≡ true → (m < n) × (a ≡ members_above (quorum table q) m)
-asked-within n table {t} {q} {h} {m} {a} e w =
-    let asked = sym (ap (within n table) e) ∙ w in
-    (ltb-true m n (and_left (ltb m n) _ asked), eqb-true a (members_above (quorum table q) m) (and_right (ltb m n) _ asked))
+pub asked-within : (n : ℕ) (table : List ℕ) {t : Taking} {w : Wish} → t ≡ Asks w → within n table t ≡ true → (w.member < n) × (w.above ≡ members_above (quorum table w.quorum) w.member)
+asked-within n table {t} {w} e is =
+    let asked = sym (ap (within n table) e) ∙ is in
+    (ltb-true w.member n (and_left (ltb w.member n) _ asked), eqb-true w.above (members_above (quorum table w.quorum) w.member) (and_right (ltb w.member n) _ asked))
 
-module _ (table : List ℕ) (j : ℕ) {p : Phase} where
-  pub taken-idle : p ≡ Idle → taken table j p ≡ Taken.drops
+module _ (table : List ℕ) (j : ℕ) where
+  -- it collects from another arbiter, or does not collect
+  pub taken_elsewhere : {p : Phase} {q : ℕ} {h : Units} {m : ℕ} → p ≡ Collecting q h m → (m ≡ j → ⊥) → taken table j p ≡ Taken.drops
   unfolding taken
-  taken-idle e = rw e
+  taken_elsewhere {p} {q} {h} {m} e d = rw (e, ne_eqb m j d)
 
-  pub taken-holding : {q : ℕ} {h : Units} → p ≡ Holding q h → taken table j p ≡ Taken.drops
+  pub taken_here : {p : Phase} {q : ℕ} {h : Units} {m : ℕ} → p ≡ Collecting q h m → m ≡ j → taken table j p ≡ onward table q h j
   unfolding taken
-  taken-holding {q} {h} e = rw e
+  taken_here {p} {q} {h} {m} e d = rw (e, eq-eqb m j d)
 
-  pub taken-withdrawing : p ≡ Withdrawing → taken table j p ≡ Taken.drops
+  pub taken-nothing : (p : Phase) → ((q : ℕ) (h : Units) (m : ℕ) → p ≡ Collecting q h m → ⊥) → taken table j p ≡ Taken.drops
   unfolding taken
-  taken-withdrawing e = rw e
-
-  pub taken_elsewhere : {q : ℕ} {h : Units} {m : ℕ} → p ≡ Collecting q h m → (m ≡ j → ⊥) → taken table j p ≡ Taken.drops
-  unfolding taken
-  taken_elsewhere {q} {h} {m} e d = rw (e, ne_eqb m j d)
-
-  pub taken_here : {q : ℕ} {h : Units} {m : ℕ} → p ≡ Collecting q h m → m ≡ j → taken table j p ≡ onward table q h j
-  unfolding taken
-  taken_here {q} {h} {m} e d = rw (e, eq-eqb m j d)
+  taken-nothing Idle k = refl
+  taken-nothing (Collecting q h m) k = absurd (k q h m refl)
+  taken-nothing (Holding q h) k = refl
+  taken-nothing Withdrawing k = refl

@@ -1,13 +1,13 @@
 -- A record in range: its limits, and what of the plain state in range is known of its parts.
 -- Assumes nothing.
 use mathlib.Core.Bool.{true}
-use mathlib.Core.Path.{◌≡◌}
+use mathlib.Core.Path.{◌≡◌, sym}
 use Prim.Native.Nat.{ℕ, ◌≤◌, ◌<◌}
 use native.Mathlib.Omega.{arith}
 use lib.Dec.{ltb}
-use lib.ListN.{length, get_or}
+use lib.ListN.{length, get_or, take}
 use borrow.Author.Tests.{ltb-true}
-use Rattle.lists.proofs.Cuts.{length_cut}
+use Rattle.lists.proofs.Cuts.{length_cut, cut-take}
 use Rattle.lists.proofs.Tests.{and_left}
 use Rattle.quorum.specs.Limits.{most_stations, most_quorums}
 use Rattle.quorum.proofs.Promises.{Limits, limits_kept}
@@ -37,6 +37,10 @@ module _ (r : Record) where
 
   pub quorums-few : in_range (view r) ≡ true → r.quorums ≤ most_quorums
   quorums-few e = omega (arith, (limits e).quorums.1, length_cut 0 r.quorums r.table)
+
+  -- the table, as the code lends it
+  pub table-read : r.quorums ≤ length r.table → take r.quorums r.table ≡ table_of r
+  table-read long = sym (cut-take 0 r.quorums r.table long)
 
   pub arbiter_in_lem : in_range (view r) ≡ true → (j : ℕ) → j < r.n → arbiter_in r.n r.stock (arbiter_of r.n (get_or r.arbiters j no_arbiter)) ≡ true
   unfolding view

@@ -15,7 +15,7 @@ use Rattle.lists.specs.Cut.{cut}
 use Rattle.lists.specs.Search.{some_below}
 use Rattle.lists.proofs.Changed.{at2-same, at2_other}
 use Rattle.lists.proofs.Cuts.{cut-more}
-use Rattle.lists.proofs.Joined.{map-append}
+use Rattle.std.proofs.lemmas.List.{map-append}
 use Rattle.lists.proofs.Searches.{some_at}
 use Rattle.plain.specs.Arbiter.{units_in, grants_to}
 use Rattle.plain.specs.Lanes.{down_places, passes, sent}
@@ -101,6 +101,11 @@ cut_later d zero n xs h = (cut d n xs, refl)
 cut_later d (suc i) zero xs h = absurd (not-suc-le-zero h)
 cut_later {A} d (suc i) (suc n) [] h = let (rest, e) = cut_later d i n [] (le_of_suc-le-suc h) in (rest, ap (λ (l : List A). d ∷ l) e)
 cut_later {A} d (suc i) (suc n) (x ∷ xs) h = let (rest, e) = cut_later d i n xs (le_of_suc-le-suc h) in (rest, ap (λ (l : List A). x ∷ l) e)
+
+-- a list that is cut at its end
+pub whole : {A : Type 0} (d : A) (xs : List A) → cut d (length xs) xs ≡ xs
+whole d [] = refl
+whole d (x ∷ xs) = ap (◌∷◌ x) (whole d xs)
 
 module _ (lanes : ℕ → ℕ → List Message) (j : ℕ) (line : List Entry) where
   -- the lanes when the entries before i have been granted

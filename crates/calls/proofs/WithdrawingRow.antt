@@ -1,12 +1,11 @@
 -- The lanes up of a station that withdraws, as the code makes them: first RELEASE, then WITHDRAW.
 -- Assumes nothing.
-use mathlib.Core.Bool.{Bool, true, false, ◌||◌}
+use mathlib.Core.Bool.{false, ◌||◌}
 use mathlib.Core.List.{List}
-use mathlib.Core.Path.{◌≡◌, sym, ap, ◌∙◌}
+use mathlib.Core.Path.{◌≡◌, sym, ap, ap₂, ◌∙◌}
 use Prim.Native.Nat.{ℕ, ◌≤◌, ◌<◌, ◌^◌, min}
 use native.Mathlib.Omega.{arith}
 use lib.Bits.{bit_and, and_le_l}
-use lib.ListN.{get_or}
 use Rattle.lists.specs.At.{at}
 use Rattle.lists.specs.Search.{some_below}
 use Rattle.stations.specs.Sets.{everyone, places}
@@ -18,11 +17,8 @@ use Rattle.plain.specs.declared.Message.{Message}
 use Rattle.plain.specs.declared.Message.TheVariants.{Withdraw}
 use Rattle.plain.proofs.Releasing.{releasing_other}
 use Rattle.plain.proofs.Withdrawing.{below_none}
-use Rattle.records.specs.View.{no_lane, lane_of, row_of}
-use Rattle.records.specs.declared.Lane.{Lane}
+use Rattle.records.specs.View.{row_of}
 use Rattle.records.specs.declared.Row.{Row}
-use Rattle.records.proofs.Viewing.{row_at}
-use Rattle.calls.proofs.AskingMember.{lane_full, lane_room}
 
 -- the members below m, as the code finds them
 pub below_is : (set m first : ℕ) → m ≤ places → first ≡ everyone (min m places) → bit_and set first ≡ below set m
@@ -38,23 +34,13 @@ pub record ReleasedBelow (n : ℕ) (w : Row) (set m : ℕ) (row : Row) : Type 0 
   pub lanes : row_of n row ≡ releasing (below set m) (row_of n w)
 
 module _ {n : ℕ} {w : Row} {set m : ℕ} {row : Row} (r : ReleasedBelow n w set m row) where
-  abbrev lane : Lane
-  lane = get_or row.lanes m no_lane
-
   -- none to m
-  approached : row_of n w m ≡ lane_of lane
-  approached =
-      sym (releasing_other (below set m) (row_of n w) m (below_none set m m (omega arith))) ∙ ap (λ (lanes : ℕ → List Message). lanes m) (sym r.lanes) ∙ row_at n row m r.member
+  approached : row_of n w m ≡ row_of n row m
+  approached = sym (releasing_other (below set m) (row_of n w) m (below_none set m m (omega arith))) ∙ ap (λ (lanes : ℕ → List Message). lanes m) (sym r.lanes)
 
-  abbrev full : Bool
-  full = some_below (release_passes (below set m) (row_of n w)) n || passes up_places (sent (row_of n w m) Withdraw)
+  pub withdraw_passes : (some_below (release_passes (below set m) (row_of n w)) n || passes up_places (sent (row_of n w m) Withdraw)) ≡ passes up_places (sent (row_of n row m) Withdraw)
+  withdraw_passes = rw (r.room, approached)
 
-  pub withdraw_full : up_places ≤ lane.len → full ≡ true
-  withdraw_full h = rw (r.room, approached) (lane_full up_places lane Withdraw h)
-
-  pub withdraw-room : lane.len < up_places → full ≡ false
-  withdraw-room h = rw (r.room, approached) (lane_room up_places lane Withdraw h)
-
-  pub withdraw-goes : {longer : List Message} → longer ≡ sent (lane_of lane) Withdraw → at (row_of n row) m longer ≡ withdrawing set m (row_of n w)
+  pub withdraw-goes : at (row_of n row) m (sent (row_of n row m) Withdraw) ≡ withdrawing set m (row_of n w)
   unfolding withdrawing
-  withdraw-goes put = rw (put, r.lanes, ← approached)
+  withdraw-goes = ap₂ (λ (lanes : ℕ → List Message) (lane : List Message). at lanes m (sent lane Withdraw)) r.lanes (sym approached)

@@ -1,52 +1,89 @@
-// A station asks a member of its quorum, alike in Request and in Down.
-ghost use Rattle.std.specs.Prelude.{◌≡◌, ◌≤◌, ◌<◌};
-ghost use Rattle.plain.specs.Answer.{answer, above_only};
+// Request; and a station asks a member of its quorum, alike in Request and in Down.
+ghost use Rattle.std.specs.Prelude.{◌≡◌, ◌≤◌, ◌<◌, OnErr};
+ghost use Rattle.plain.specs.Request.{is_idle as is_idle_rule, request as request_of};
 ghost use Rattle.quorum.specs.Limits.{most_stations};
 ghost use Rattle.records.specs.View.{view};
-ghost use Rattle.calls.specs.Answers.{answer_of};
+ghost use Rattle.units.specs.Units.{units_of as units_of_rule};
+ghost use Rattle.calls.specs.Answers.{answered_by};
 ghost use Rattle.calls.specs.Inner.Parts.{ask_answer};
 
-use crate::{Answer, lanes};
+use crate::{Returned, lanes, taking};
 use plain::{Message, Phase};
-use records::{Record, Station, UP_PLACES};
+use records::{Record, UP_PLACES};
+use refusals::Refusal;
 use units::Units;
 
-// What asking answers, refused or not: no units are entered or left.
-fn asked(r: Record, refusal: u8, above: u8) -> Answer
-    ensures answer { answer_of result ≡ answer refusal (above_only above) (view r) }
-    ensures same { (result.refusal ≡ refusal) × (result.«record» ≡ r) }
-{
-    let none = units::no_units();
-    Answer {
-        refusal,
-        entered: none,
-        left: none,
-        above,
-        record: r,
-    }
+// What a station asks for: units, of a member of its quorum, above which so many members lie.
+#[derive(Clone, Copy)]
+pub(crate) struct Wish {
+    pub quorum: u8,
+    pub units: Units,
+    pub member: u8,
+    pub above: u8,
 }
 
-// REQUEST goes up to the member, and the station collects from it. So many members of its quorum lie above that one.
-pub(crate) fn ask(r: Record, s: usize, quorum: u8, units: Units, member: u8, above: u8) -> Answer
-    requires { (r.n ≤ most_stations) × (s < r.n) × (member < r.n) }
-    ensures answer { answer_of result ≡ ask_answer (view r) s quorum units member above }
-    ensures refused { 0 < result.refusal → result.«record» ≡ r }
+// REQUEST goes up to the member, and the station collects from it.
+pub(crate) fn ask(r: &mut Record, s: usize, wish: Wish) -> Result<Returned, Refusal>
+    requires { (r.old.n ≤ most_stations) × (s < r.old.n) × (wish.member < r.old.n) }
+    ensures answer { answered_by result (view r.new) ≡ ask_answer (view r.old) s wish.quorum wish.units wish.member wish.above }
+    ensures others { (r.new.n ≡ r.old.n) × (r.new.down ≡ r.old.down) }
+    ensures refused { OnErr result (r.new ≡ r.old) }
 {
-    let up = r.up;
+    let Wish {
+        quorum,
+        units,
+        member,
+        above,
+    } = wish;
     let to = member as usize;
-    let lane = lanes::lane_at(up, s, to);
-    if UP_PLACES <= lane.len as usize {
-        return asked(r, crate::NO_PLACE, 0);
+    match lanes::put_between(&mut r.up, s, to, Message::Request(units), UP_PLACES) {
+        Ok(()) => {}
+        Err(refusal) => return Err(refusal),
     }
-    let mut next = r;
-    next.up = lanes::with_lane(up, s, to, lanes::put(lane, Message::Request(units)));
-    let station = Station {
-        phase: Phase::Collecting {
-            quorum,
-            units,
-            member,
-        },
+    r.stations[s].phase = Phase::Collecting {
+        quorum,
+        units,
+        member,
     };
-    next.stations[s] = station;
-    asked(next, refusals::NO_REFUSAL, above)
+    Ok(Returned {
+        above,
+        ..crate::nothing()
+    })
+}
+
+fn is_idle(p: Phase) -> bool
+    ensures { result ≡ is_idle_rule p }
+{
+    matches!(p, Phase::Idle)
+}
+
+// The lowest member of the quorum is asked.
+pub(crate) fn request(r: &mut Record, s: usize, q: usize, h: usize) -> Result<Returned, Refusal>
+    ensures answer { answered_by result (view r.new) ≡ request_of (view r.old) s q (units_of_rule h) }
+    ensures refused { OnErr result (r.new ≡ r.old) }
+{
+    match taking::tested(r, s) {
+        Ok(()) => {}
+        Err(refusal) => return Err(refusal),
+    }
+    if r.quorums as usize <= q {
+        return Err(Refusal::NoSuchQuorum);
+    }
+    let units = units::units_of(h);
+    if !units::request_in(r.stock, units) {
+        return Err(Refusal::BadUnits);
+    }
+    if !is_idle(r.stations[s].phase) {
+        return Err(Refusal::NotIdle);
+    }
+    let Some(next) = stations::lowest_from(r.table[q], 0) else {
+        return Err(Refusal::BadQuorum); // it never comes here: no quorum is empty
+    };
+    let wish = Wish {
+        quorum: q as u8,
+        units,
+        member: next.member as u8,
+        above: next.above as u8,
+    };
+    ask(r, s, wish)
 }

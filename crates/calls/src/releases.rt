@@ -1,98 +1,67 @@
 // A station gives back what it holds.
-ghost use Rattle.std.specs.Prelude.{false, ◌≡◌, ℕ, ◌≤◌, ◌<◌, ◌^◌};
+ghost use Rattle.std.specs.Prelude.{[], ◌∷◌, ◌≡◌, ◌≤◌, ◌<◌, ◌^◌, OnOk, OnErr};
 ghost use Rattle.lists.specs.At.{at};
+ghost use Rattle.lists.specs.Broken.{◌when◌, first_broken};
 ghost use Rattle.lists.specs.Search.{some_below};
-ghost use Rattle.plain.specs.Inner.Passed.{Releases};
+ghost use Rattle.plain.specs.Lanes.{no_place};
 ghost use Rattle.plain.specs.Release.{releasing, release_passes, release};
-ghost use Rattle.quorum.specs.Limits.{most_stations, most_quorums};
+ghost use Rattle.plain.specs.Updates.{with_phase, with_ups};
+ghost use Rattle.quorum.specs.Limits.{most_stations};
 ghost use Rattle.records.specs.View.{view, row_of};
-ghost use Rattle.calls.specs.Answers.{answer_of};
-ghost use Rattle.calls.specs.Inner.Parts.{row_answer};
+ghost use Rattle.refusals.specs.Numbers.{refusal_of};
+ghost use Rattle.calls.specs.Answers.{answered_by};
 
-use crate::{Answer, lanes};
+use crate::{Returned, lanes, taking};
 use plain::{Message, Phase};
 use records::{Record, Row, Station, UP_PLACES};
-use units::Units;
-
-#[derive(Clone, Copy)]
-pub(crate) struct Released {
-    pub full: bool,
-    pub row: Row,
-}
-
-// RELEASE goes up to j, if j is a member of the set.
-fn release_to(w: Row, j: usize, set: u16) -> Released
-    requires { j < most_stations }
-    ensures full { (n : ℕ) → j < n → result.full ≡ release_passes set (row_of n w) j }
-    ensures row { result.full ≡ false → (n : ℕ) → j < n → row_of n result.row ≡ at (row_of n w) j (releasing set (row_of n w) j) }
-{
-    if !stations::has(set, j) {
-        return Released {
-            full: false,
-            row: w,
-        };
-    }
-    let lane = w.lanes[j];
-    if UP_PLACES <= lane.len as usize {
-        return Released { full: true, row: w };
-    }
-    let row = lanes::row_with(w, j, lanes::put(lane, Message::Release));
-    Released { full: false, row }
-}
+use refusals::Refusal;
 
 // RELEASE goes up to all members of the set.
-pub(crate) fn release_row(w: Row, n: usize, set: u16) -> Released
+pub(crate) fn release_row(w: &mut Row, n: usize, set: u16) -> Result<(), Refusal>
     requires { (n ≤ most_stations) × (set < 2 ^ n) }
-    ensures full { result.full ≡ some_below (release_passes set (row_of n w)) n }
-    ensures row { result.full ≡ false → row_of n result.row ≡ releasing set (row_of n w) }
+    ensures refusal { refusal_of result ≡ first_broken (no_place when some_below (release_passes set (row_of n w.old)) n ∷ []) }
+    ensures row { OnOk result (row_of n w.new ≡ releasing set (row_of n w.old)) }
 {
-    let mut next = w;
-    let mut j: usize = 0;
-    while j < n {
-        let released = release_to(next, j, set);
-        if released.full {
-            return Released {
-                full: true,
-                row: next,
-            };
+    for j in 0..n {
+        if stations::has(set, j) {
+            match lanes::put_to(w, j, Message::Release, UP_PLACES) {
+                Ok(()) => {}
+                Err(refusal) => return Err(refusal),
+            }
         }
-        next = released.row;
-        j += 1;
     }
-    Released {
-        full: false,
-        row: next,
-    }
+    Ok(())
 }
 
-// The station has these lanes up, is in this phase, and so many units are left; 14 where one of the lanes is full.
-pub(crate) fn send_row(r: Record, s: usize, sent: Released, phase: Phase, left: Units) -> Answer
-    requires { (r.n ≤ most_stations) × (s < r.n) }
-    ensures answer { answer_of result ≡ row_answer (view r) s sent.full (row_of r.n sent.row) phase left }
-    ensures refused { 0 < result.refusal → result.«record» ≡ r }
+// The station has these lanes up, and is in this phase.
+pub(crate) fn send_row(r: &mut Record, s: usize, row: Row, phase: Phase)
+    requires { (r.old.n ≤ most_stations) × (s < r.old.n) }
+    ensures { view r.new ≡ with_phase s phase (with_ups (at (view r.old).up s (row_of r.old.n row)) (view r.old)) }
 {
-    if sent.full {
-        return crate::refuse(r, crate::NO_PLACE);
-    }
-    let row = sent.row;
-    let mut up = r.up;
-    up.rows[s] = row;
-    let mut next = r;
-    next.up = up;
-    let station = Station { phase };
-    next.stations[s] = station;
-    crate::done_with(next, units::no_units(), left)
+    r.up.rows[s] = row;
+    r.stations[s] = Station { phase };
 }
 
 // The station is idle, and its units are left.
-pub(crate) fn give_back(r: Record, s: usize, quorum: u8, units: Units) -> Answer
-    requires { Releases (view r) s quorum units × (s < most_stations) × (quorum < most_quorums) }
-    ensures answer { answer_of result ≡ release (view r) s }
-    ensures refused { 0 < result.refusal → result.«record» ≡ r }
+pub(crate) fn give_back(r: &mut Record, s: usize) -> Result<Returned, Refusal>
+    ensures answer { answered_by result (view r.new) ≡ release (view r.old) s }
+    ensures refused { OnErr result (r.new ≡ r.old) }
 {
-    let up = r.up;
-    let at = quorum as usize;
-    let row = up.rows[s];
-    let released = release_row(row, r.n as usize, r.table[at]);
-    send_row(r, s, released, Phase::Idle, units)
+    match taking::tested(r, s) {
+        Ok(()) => {}
+        Err(refusal) => return Err(refusal),
+    }
+    let Phase::Holding { quorum, units } = r.stations[s].phase else {
+        return Err(Refusal::NotHolding);
+    };
+    let mut row = r.up.rows[s];
+    match release_row(&mut row, r.n as usize, r.table[quorum as usize]) {
+        Ok(()) => {}
+        Err(refusal) => return Err(refusal),
+    }
+    send_row(r, s, row, Phase::Idle);
+    Ok(Returned {
+        left: units,
+        ..crate::nothing()
+    })
 }

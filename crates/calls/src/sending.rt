@@ -1,75 +1,49 @@
 // What goes down the lanes from an arbiter: GONE, and grants.
-ghost use Rattle.std.specs.Prelude.{false, ◌≡◌, ◌<◌};
-ghost use Rattle.lists.specs.Cut.{cut};
+ghost use Rattle.std.specs.Prelude.{[], ◌∷◌, ◌≡◌, OnOk};
+ghost use Rattle.lists.specs.Broken.{◌when◌, first_broken};
 ghost use Rattle.lists.specs.Search.{some_below};
-ghost use Rattle.plain.specs.Lanes.{down_places, passes};
+ghost use Rattle.plain.specs.Lanes.{down_places, no_place, passes};
 ghost use Rattle.plain.specs.Up.{replying, granting};
-ghost use Rattle.records.specs.View.{no_entry, lanes_of};
+ghost use Rattle.records.specs.View.{lanes_of};
+ghost use Rattle.refusals.specs.Numbers.{refusal_of};
 ghost use Rattle.calls.specs.Inner.Parts.{Sends, is_withdrawal as is_withdrawal_rule};
 
 use crate::lanes;
 use plain::{Entry, Message};
-use records::{DOWN_PLACES, LINE_PLACES, Lanes};
-
-#[derive(Clone, Copy)]
-pub(crate) struct Sent {
-    pub full: bool,
-    pub lanes: Lanes,
-}
+use records::{DOWN_PLACES, Lanes};
+use refusals::Refusal;
 
 fn is_withdrawal(m: Message) -> bool
     ensures { result ≡ is_withdrawal_rule m }
 {
-    match m {
-        Message::Request(_) => false,
-        Message::Release => false,
-        Message::Grant => false,
-        Message::Withdraw => true,
-        Message::Gone => false,
-    }
+    matches!(m, Message::Withdraw)
 }
 
-// GONE from arbiter j to the sender s of a WITHDRAW, then a GRANT for each of the first entries of the line.
+// GONE from arbiter j to the sender s of a WITHDRAW, then a GRANT for each of the entries granted.
 pub(crate) fn send(
-    down: Lanes,
+    down: &mut Lanes,
     n: usize,
     s: usize,
     j: usize,
     m: Message,
-    line: [Entry; LINE_PLACES],
-    grants: usize,
-) -> Sent
-    requires { Sends n s j grants line (lanes_of n down) }
-    ensures full { result.full ≡ some_below (λ t. passes down_places (granting (replying m (lanes_of n down) s j) j (cut no_entry grants line) t j)) n }
-    ensures lanes { result.full ≡ false → lanes_of n result.lanes ≡ granting (replying m (lanes_of n down) s j) j (cut no_entry grants line) }
+    grants: &[Entry],
+) -> Result<(), Refusal>
+    requires { Sends n s j grants.now (lanes_of n down.old) }
+    ensures refusal { refusal_of result ≡ first_broken (no_place when some_below (λ t. passes down_places (granting (replying m (lanes_of n down.old) s j) j grants.now t j)) n ∷ []) }
+    ensures lanes { OnOk result (lanes_of n down.new ≡ granting (replying m (lanes_of n down.old) s j) j grants.now) }
 {
-    let mut next = down;
     if is_withdrawal(m) {
-        let own = lanes::lane_at(next, s, j);
-        if DOWN_PLACES <= own.len as usize {
-            return Sent {
-                full: true,
-                lanes: next,
-            };
+        match lanes::put_between(down, s, j, Message::Gone, DOWN_PLACES) {
+            Ok(()) => {}
+            Err(refusal) => return Err(refusal),
         }
-        next = lanes::with_lane(next, s, j, lanes::put(own, Message::Gone));
     }
-    let mut i: usize = 0;
-    while i < grants {
-        let e = line[i];
-        let t = e.station as usize;
-        let lane = lanes::lane_at(next, t, j);
-        if DOWN_PLACES <= lane.len as usize {
-            return Sent {
-                full: true,
-                lanes: next,
-            };
+    for entry in grants {
+        let t = entry.station as usize;
+        match lanes::put_between(down, t, j, Message::Grant, DOWN_PLACES) {
+            Ok(()) => {}
+            Err(refusal) => return Err(refusal),
         }
-        next = lanes::with_lane(next, t, j, lanes::put(lane, Message::Grant));
-        i += 1;
     }
-    Sent {
-        full: false,
-        lanes: next,
-    }
+    Ok(())
 }

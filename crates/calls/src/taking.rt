@@ -1,56 +1,42 @@
-// The oldest message of a lane is taken, alike in Up and in Down.
-ghost use Rattle.std.specs.Prelude.{◌≡◌, ℕ, ◌≤◌, ◌<◌, length};
+// What a call tests first, the record, the station and the lane; and which message is the oldest of a lane.
+ghost use Rattle.std.specs.Prelude.{◌≡◌, ◌≤◌, ◌<◌, OnOk, IfOk};
 ghost use Rattle.lists.specs.Broken.{first_broken};
 ghost use Rattle.plain.specs.Delivery.{lane_tests};
-ghost use Rattle.plain.specs.Lanes.{up_places};
 ghost use Rattle.quorum.specs.Limits.{most_stations};
-ghost use Rattle.records.specs.View.{lanes_of};
-ghost use Rattle.calls.specs.Inner.Parts.{Took};
+ghost use Rattle.records.specs.View.{view, lanes_of};
+ghost use Rattle.refusals.specs.Numbers.{refusal_of};
+ghost use Rattle.calls.specs.Inner.Parts.{station_tests, Stands, Took};
 
-use crate::lanes;
 use plain::Message;
-use records::Lanes;
+use records::{Lanes, Record};
+use refusals::Refusal;
 
-// The message, and all lanes without it; or the refusal where there is no such message.
-#[derive(Clone, Copy)]
-pub(crate) struct Found {
-    pub refusal: u8,
-    pub message: Message,
-    pub rest: Lanes,
+// Of Request, Release and Withdraw: the record is in range, and has the station.
+pub(crate) fn tested(r: &Record, s: usize) -> Result<(), Refusal>
+    ensures refusal { refusal_of result ≡ first_broken (station_tests (view r.now) s) }
+    ensures passed { OnOk result (Stands r.now s) }
+{
+    if !records::in_range(r) {
+        return Err(Refusal::OutOfRange);
+    }
+    if r.n as usize <= s {
+        return Err(Refusal::NoSuchStation);
+    }
+    Ok(())
 }
 
-fn nothing(refusal: u8, all: Lanes) -> Found
-    ensures { result.refusal ≡ refusal }
+// Of Up and Down: the oldest message in the lane of station s and arbiter j.
+pub(crate) fn oldest(all: &Lanes, n: usize, s: usize, j: usize) -> Result<Message, Refusal>
+    requires { n ≤ most_stations }
+    ensures refusal { refusal_of result ≡ first_broken (lane_tests n s j (lanes_of n all.now s j)) }
+    ensures took { IfOk result (λ m. Took n s j (lanes_of n all.now) m) }
 {
-    Found {
-        refusal,
-        message: Message::Release,
-        rest: all,
+    if n <= s || n <= j {
+        return Err(Refusal::NoSuchStation);
     }
-}
-
-// The oldest message in the lane of station s and arbiter j.
-pub(crate) fn take_oldest(all: Lanes, n: usize, s: usize, j: usize) -> Found
-    requires { (n ≤ most_stations) × ((s j : ℕ) → s < n → j < n → length (lanes_of n all s j) ≤ up_places) }
-    ensures refusal { result.refusal ≡ first_broken (lane_tests n s j (lanes_of n all s j)) }
-    ensures taken { result.refusal ≡ 0 → Took n s j (lanes_of n all) result.message (lanes_of n result.rest) }
-{
-    if n <= s {
-        return nothing(refusals::NO_SUCH_STATION, all);
-    }
-    if n <= j {
-        return nothing(refusals::NO_SUCH_STATION, all);
-    }
-    let lane = lanes::lane_at(all, s, j);
+    let lane = all.rows[s].lanes[j];
     if lane.len == 0 {
-        return nothing(refusals::EMPTY_LANE, all);
+        return Err(Refusal::EmptyLane);
     }
-    let oldest = lanes::take(lane);
-    let message = oldest.message;
-    let rest = lanes::with_lane(all, s, j, oldest.rest);
-    Found {
-        refusal: refusals::NO_REFUSAL,
-        message,
-        rest,
-    }
+    Ok(lane.slots[0].message)
 }

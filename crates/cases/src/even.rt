@@ -4,6 +4,6 @@ use crate::table;
 use std::io;
 
 pub(crate) fn tables(rt: &impl Print) -> io::Result<()> {
-    table::check(rt, b"two sizes", 6, 1, &[7, 28, 49, 42, 54, 45, 27])?;
-    table::check(rt, b"two shares", 3, 1, &[3, 5])
+    table::check(rt, "two sizes", 6, 1, &[7, 28, 49, 42, 54, 45, 27])?;
+    table::check(rt, "two shares", 3, 1, &[3, 5])
 }

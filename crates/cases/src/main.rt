@@ -4,12 +4,12 @@
 
 mod counts;
 mod even;
+mod made;
 mod makers;
 mod marked;
 mod order;
 mod ready;
 mod refused;
-mod report;
 mod table;
 
 use std::io;

@@ -1,98 +1,77 @@
 // The makers' own examples: P10, and each of their refusals where two could be given.
-use crate::ready::BEFORE;
-use crate::{ready, report};
+ghost use Rattle.std.specs.Prelude.{◌<◌};
+
+use crate::made::{self, Maker};
 use std::io;
 
 // No argument of a maker can be larger.
-const LARGEST: usize = 18446744073709551615;
+const LARGEST: usize = usize::MAX;
 
-// The first quorum, and the number of its members.
-fn print_first(rt: &impl Print, quorums: &[u16]) -> io::Result<()> {
-    if quorums.len() == 0 {
-        return Ok(());
-    }
-    let quorum = quorums[0];
-    report::number(rt, b" quorum=", quorum as usize)?;
-    report::number(rt, b" count=", stations::count(quorum))
-}
-
-// P10: the cube of a = 3 and k = 1.
+// P10: the cube of a = 3 and k = 1, with its first quorum and the number of that one's members.
 fn p10(rt: &impl Print) -> io::Result<()> {
-    let mut out = [BEFORE; 9];
-    let made = tables::cube(3, 1, &mut out);
-    report::text(rt, b"P10")?;
-    print_first(rt, &out)?;
-    let n = made.quorums;
-    ready::print_made(rt, made, n, 1, &out)
+    let maker = Maker::Cube { a: 3, k: 1 };
+    let mut out = [made::BEFORE; 9];
+    let made = maker.make(&mut out);
+    let quorum = out[0];
+    print!(rt; "P10 quorum={quorum} count={}", stations::count(quorum))?;
+    made::print_made(rt, maker, made, &out)
 }
 
-// Each in a buffer of three entries.
-fn singleton(rt: &impl Print, name: &[u8], n: usize, station: usize) -> io::Result<()> {
-    let mut out = [BEFORE; 3];
-    let made = tables::singleton(n, station, &mut out);
-    report::text(rt, name)?;
-    ready::print_made(rt, made, n, ready::SINGLETON_STOCK, &out)
+// An example, in a buffer of so many entries.
+fn in_room<const ROOM: usize>(rt: &impl Print, name: &str, maker: Maker) -> io::Result<()>
+    requires { ROOM < 65536 }
+{
+    print!(rt; "{name}")?;
+    made::print_in::<ROOM>(rt, maker)
 }
 
-fn uniform(rt: &impl Print, name: &[u8], n: usize, k: usize) -> io::Result<()> {
-    let mut out = [BEFORE; 3];
-    let made = tables::uniform(n, k, &mut out);
-    report::text(rt, name)?;
-    ready::print_made(rt, made, n, k, &out)
+fn singleton(rt: &impl Print, name: &str, n: usize, station: usize) -> io::Result<()> {
+    in_room::<3>(rt, name, Maker::Singleton { n, station })
 }
 
-// A cube has as many stations as quorums.
-fn cube(rt: &impl Print, name: &[u8], a: usize, k: usize) -> io::Result<()> {
-    let mut out = [BEFORE; 3];
-    let made = tables::cube(a, k, &mut out);
-    report::text(rt, name)?;
-    let n = made.quorums;
-    ready::print_made(rt, made, n, k, &out)
+fn uniform(rt: &impl Print, name: &str, n: usize, k: usize) -> io::Result<()> {
+    in_room::<3>(rt, name, Maker::Uniform { n, k })
 }
 
-// An empty buffer, which no table fits.
-fn no_entries(rt: &impl Print) -> io::Result<()> {
-    let mut out = [BEFORE; 0];
-    let made = tables::singleton(3, 1, &mut out);
-    report::text(rt, b"refusal 16")?;
-    ready::print_made(rt, made, 3, ready::SINGLETON_STOCK, &out)
+fn cube(rt: &impl Print, name: &str, a: usize, k: usize) -> io::Result<()> {
+    in_room::<3>(rt, name, Maker::Cube { a, k })
 }
 
-// Document 01's examples of 8, 16, 17 and 18.
+// Document 01's examples of 8, 16, 17 and 18. No table fits an empty buffer.
 fn examples(rt: &impl Print) -> io::Result<()> {
-    singleton(rt, b"refusal 8", 3, 3)?;
-    no_entries(rt)?;
-    cube(rt, b"refusal 17", 2, 3)?;
-    uniform(rt, b"refusal 18", 9, 1)
+    singleton(rt, "refusal 8", 3, 3)?;
+    in_room::<0>(rt, "refusal 16", Maker::Singleton { n: 3, station: 1 })?;
+    cube(rt, "refusal 17", 2, 3)?;
+    uniform(rt, "refusal 18", 9, 1)
 }
 
 // 1 before 8, 1 before 2, 2 before 17; 18 and 17 before 16; numbers of any size.
 fn in_order(rt: &impl Print) -> io::Result<()> {
-    singleton(rt, b"1 before 8", quorum::MOST_STATIONS + 1, LARGEST)?;
-    uniform(rt, b"1 before 2", 0, 0)?;
-    cube(rt, b"2 before 17", 0, quorum::MOST_UNITS + 1)?;
-    uniform(rt, b"18 before 16", quorum::MOST_STATIONS, 2)?;
-    cube(rt, b"17 before 16", 4, 1)
+    singleton(rt, "1 before 8", quorum::MOST_STATIONS + 1, LARGEST)?;
+    uniform(rt, "1 before 2", 0, 0)?;
+    cube(rt, "2 before 17", 0, quorum::MOST_UNITS + 1)?;
+    uniform(rt, "18 before 16", quorum::MOST_STATIONS, 2)?;
+    cube(rt, "17 before 16", 4, 1)
 }
 
 fn large_numbers(rt: &impl Print) -> io::Result<()> {
-    uniform(rt, b"large n", LARGEST, LARGEST)?;
-    uniform(rt, b"large k", quorum::MOST_STATIONS, LARGEST)?;
-    cube(rt, b"large a", LARGEST, quorum::MOST_UNITS)?;
-    cube(rt, b"large power", 2, quorum::MOST_UNITS)?;
-    singleton(rt, b"large station", quorum::MOST_STATIONS, LARGEST)
+    uniform(rt, "large n", LARGEST, LARGEST)?;
+    uniform(rt, "large k", quorum::MOST_STATIONS, LARGEST)?;
+    cube(rt, "large a", LARGEST, quorum::MOST_UNITS)?;
+    cube(rt, "large power", 2, quorum::MOST_UNITS)?;
+    singleton(rt, "large station", quorum::MOST_STATIONS, LARGEST)
 }
 
 // Tables of the largest stock, checked at it and at one unit too many.
 fn largest_stock(rt: &impl Print) -> io::Result<()> {
-    uniform(rt, b"uniform of the largest k", 3, quorum::MOST_UNITS)?;
-    cube(rt, b"cube of the largest k", 1, quorum::MOST_UNITS)
+    uniform(rt, "uniform of the largest k", 3, quorum::MOST_UNITS)?;
+    cube(rt, "cube of the largest k", 1, quorum::MOST_UNITS)
 }
 
 // A buffer one entry short, and one that is just enough.
 fn just_enough(rt: &impl Print) -> io::Result<()> {
-    uniform(rt, b"four in three", 4, 2)?;
-    uniform(rt, b"three in three", 3, 1)
+    uniform(rt, "four in three", 4, 2)?;
+    uniform(rt, "three in three", 3, 1)
 }
 
 pub(crate) fn tables(rt: &impl Print) -> io::Result<()> {

@@ -1,5 +1,9 @@
 // One table through the check, and the outages that it survives.
-use crate::{counts, report};
+ghost use Rattle.std.specs.Prelude.{◌<◌};
+
+use crate::counts;
+use quorum::{Accepted, Rejected};
+use refusals::Refusal;
 use std::io;
 
 // The bytes of the scratch before a check: none of them is 0.
@@ -10,88 +14,80 @@ const LONG: usize = quorum::SCRATCH_BYTES + 904;
 
 const SHORT: usize = quorum::SCRATCH_BYTES - 1;
 
-fn print_family(rt: &impl Print, checked: quorum::Checked) -> io::Result<()> {
-    let size = checked.size;
-    if size == 0 {
-        return Ok(());
-    }
-    report::text(rt, b" family=")?;
-    for i in 0..quorum::MOST_STATIONS {
-        if i < size {
-            let number = checked.family[i] as usize;
-            report::number(rt, b"", number)?;
-            if i + 1 < size {
-                report::text(rt, b" ")?;
-            }
-        }
+fn print_judged(rt: &impl Print, refusal: u8, width: usize, even: bool) -> io::Result<()> {
+    print!(rt; " table={refusal} width={width} even={}", even as u8)
+}
+
+fn print_family(rt: &impl Print, width: usize, family: &[u8]) -> io::Result<()> {
+    print!(rt; " family=")?;
+    for (i, number) in family.iter().take(width).enumerate() {
+        let gap = if i == 0 { "" } else { " " };
+        print!(rt; "{gap}{number}")?;
     }
     Ok(())
 }
 
-// How many bytes of the scratch are `byte`.
-fn count(scratch: &[u8], byte: u8) -> usize {
-    let mut found: usize = 0;
-    let mut i: usize = 0;
-    while i < scratch.len() {
-        if scratch[i] == byte {
-            found += 1;
+pub(crate) fn print_answer(rt: &impl Print, checked: Result<Accepted, Rejected>) -> io::Result<()> {
+    match checked {
+        Ok(Accepted { width, even }) => print_judged(rt, 0, width, even),
+        Err(Rejected::Refused(refusal)) => print_judged(rt, refusal.number(), 0, false),
+        Err(Rejected::Nested { width }) => {
+            print_judged(rt, Refusal::Nested.number(), width, false)
         }
-        i += 1;
+        Err(
+            Rejected::NoCommonMember {
+                width,
+                even,
+                family,
+            },
+        ) => {
+            print_judged(rt, Refusal::NoCommonMember.number(), width, even)?;
+            print_family(rt, width, &family)
+        }
     }
-    found
 }
 
-fn print_scratch(rt: &impl Print, scratch: &[u8]) -> io::Result<()> {
-    report::number(rt, b" zeros=", count(scratch, 0))?;
-    report::number(rt, b" kept=", count(scratch, BEFORE))?;
-    report::text(rt, b"\n")
-}
-
-pub(crate) fn print_answer(rt: &impl Print, checked: quorum::Checked) -> io::Result<()> {
-    report::number(rt, b" table=", checked.refusal as usize)?;
-    report::number(rt, b" width=", checked.width)?;
-    report::number(rt, b" even=", checked.even as usize)?;
-    print_family(rt, checked)
-}
-
-// Checks the table on the scratch and prints the example's name and the answer, then how many bytes
-// of the scratch are zeros and how many are as they were.
-fn check_with(
+// Checks the table on so many bytes of scratch and prints the example's name and the answer, then how many bytes of the scratch are zeros
+// and how many are as they were.
+fn check_on<const BYTES: usize>(
     rt: &impl Print,
-    scratch: &mut [u8],
-    name: &[u8],
+    name: &str,
     n: usize,
     k: usize,
     quorums: &[u16],
-) -> io::Result<()> {
-    let checked = quorum::check(n, k, quorums, scratch);
-    report::text(rt, name)?;
+) -> io::Result<()>
+    requires { BYTES < 65536 }
+{
+    let mut scratch = [BEFORE; BYTES];
+    let checked = quorum::check(n, k, quorums, &mut scratch);
+    print!(rt; "{name}")?;
     print_answer(rt, checked)?;
-    print_scratch(rt, scratch)
+    let zeros = scratch.iter().filter(|byte| **byte == 0).count();
+    let kept = scratch.iter().filter(|byte| **byte == BEFORE).count();
+    println!(rt; " zeros={zeros} kept={kept}")
 }
 
-// On more scratch than the check asks for.
+// On more scratch than the check asks for. Not one with `check_short`: it prints the line of the outages besides. n, k and the quorums stay three, as the
+// check takes them.
 pub(crate) fn check(
     rt: &impl Print,
-    name: &[u8],
+    name: &str,
     n: usize,
     k: usize,
     quorums: &[u16],
 ) -> io::Result<()> {
-    let mut scratch = [BEFORE; LONG];
-    check_with(rt, &mut scratch, name, n, k, quorums)?;
+    check_on::<LONG>(rt, name, n, k, quorums)?;
     counts::print_line(rt, n, k, quorums)?;
-    report::text(rt, b"\n")
+    println!(rt; "")
 }
 
 // On one byte too few.
 pub(crate) fn check_short(
     rt: &impl Print,
-    name: &[u8],
+    name: &str,
     n: usize,
     k: usize,
     quorums: &[u16],
 ) -> io::Result<()> {
-    let mut scratch = [BEFORE; SHORT];
-    check_with(rt, &mut scratch, name, n, k, quorums)
+    check_on::<SHORT>(rt, name, n, k, quorums)
 }

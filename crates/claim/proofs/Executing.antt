@@ -22,7 +22,7 @@ use Rattle.claim.proofs.EndingCall.{call_ends}
 is_record : (a : Answer) (v : Val) → IsAnswer a v → IsRecord a.«record» (record_of v)
 is_record a v p =
     subst (λ (u : Val). IsRecord a.«record» (record_of u)) (ap only (sym (tells answer-type.the_type answer-laws.the_laws a (v ∷ []) p)))
-    (owed answer-type.the_type answer-laws.the_laws a (v ∷ []) p).1.1.1.1.0
+    (owed answer-type.the_type answer-laws.the_laws a (v ∷ []) p).1.0
 
 -- from every memory there is an execution, and it gives a trace
 pub execution_exists : (γ : Env) → HasCalls γ → (r : Record) (w : Val) → IsRecord r w → (calls : List Call) → AllFit calls → (σ : Memory)

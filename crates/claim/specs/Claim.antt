@@ -2,6 +2,7 @@
 use Rattle.std.specs.Prelude.{List, [], ◌∷◌, map, ◌≡◌, ℕ, ◌+◌, ◌*◌, ◌≤◌, length, take}
 use contract.Lifetimes.{Lfts}
 use Rattle.std.specs.Borrow.{Bor, MutBor}
+use Rattle.refusals.specs.Numbers.{refusal_of}
 use Rattle.quorum.specs.Scratch.{scratch_bytes}
 use Rattle.units.specs.Units.{asked_with, asked_by, number_of}
 use Rattle.units.specs.declared.Units.{Units}
@@ -53,7 +54,7 @@ module _ (n : ℕ) (stock : Units) (table : List ℕ) where
   abbrev pub Performs : Type 0
   Performs = (r : Record) (calls : Bor (List ℕ)) (answers written : MutBor (List ℕ)) (performed : Performed) (κs : Lfts 2)
       → perform-reads.Learnt κs (r, (calls, (answers, tt))) performed (r, (calls, (written, tt)))
-      → view r ≡ fresh n stock table → performed.refusal ≡ 0
+      → view r ≡ fresh n stock table → refusal_of performed.outcome ≡ 0
       → (numbers : List ℕ) → numbers ≡ take (answer_words * length (calls_of calls.now)) written.now
       → (numbers ≡ words_of (run (fresh n stock table) (calls_of calls.now))) × NumbersWithin (number_of stock) numbers
 
@@ -61,7 +62,7 @@ module _ (n : ℕ) (stock : Units) (table : List ℕ) where
   abbrev pub Opens : Type 0
   Opens = (quorums : Bor (List ℕ)) (scratch left : MutBor (List ℕ)) (opened : Opened) (κs : Lfts 2)
       → open-reads.Learnt κs (n, (number_of stock, (quorums, (scratch, tt)))) opened (n, (number_of stock, (quorums, (left, tt))))
-      → quorums.now ≡ table → scratch_bytes ≤ length scratch.now → (opened.refusal ≡ 0) × (view opened.«record» ≡ fresh n stock table)
+      → quorums.now ≡ table → scratch_bytes ≤ length scratch.now → (refusal_of opened.outcome ≡ 0) × (view opened.«record» ≡ fresh n stock table)
 
   -- (c) "the plain machine, started on it unchecked, has a list of such calls after which that difference, in its own answers, is k + 1": of
   -- the amount of which the stock has k

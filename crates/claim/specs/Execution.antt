@@ -77,7 +77,7 @@ field_at i vnil = vunit
 field_at zero (vcons v vs) = v
 field_at (suc i) (vcons v vs) = field_at i vs
 
--- the record's value in an answer's: the field after the refusal, the units entered, the units left and the members still to come
+-- the record's value in an answer's: the field after the outcome
 abbrev pub record_of : Val → Val
 record_of vunit = vunit
 record_of (vbool b) = vunit
@@ -85,7 +85,7 @@ record_of (vint w n) = vunit
 record_of (vfloat f x) = vunit
 record_of (vptr b o) = vunit
 record_of (vcode f) = vunit
-record_of (vstruct vs) = field_at 4 vs
+record_of (vstruct vs) = field_at 1 vs
 
 -- From the memory σ and the record's value w the calls are run one after another in the program γ, each on the record that the one before returned
 -- and in the memory that it left, and they return vs.

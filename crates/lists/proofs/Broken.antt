@@ -12,7 +12,8 @@ use lib.ListN.{get_or, take, drop}
 use borrow.Author.Tests.{leb-true, ltb-true, eq-eqb, ne_eqb}
 use Rattle.lists.specs.Broken.{Test, ◌when◌, first_broken, done_or}
 use Rattle.lists.specs.Search.{all}
-use Rattle.lists.proofs.Tests.{known, and_left, and_right, otherwise, either}
+use Rattle.lists.proofs.Tests.{and_left, and_right, otherwise, either}
+use Rattle.std.proofs.lemmas.Bool.{cases_Bool}
 
 -- no test of the list is broken
 abbrev pub Kept : List Test → Type 0
@@ -76,14 +77,14 @@ number_earlier f (t ∷ tests) last z e room =
     ⊎_elim
     (λ (b : t.broken ≡ true). rw b (sym (or-false (f t.number)) ∙ (rw b at (and_left (f t.number || not t.broken) _ e))))
     (λ (b : t.broken ≡ false). rw b (number_earlier f tests last z (and_right (f t.number || not t.broken) _ e) (λ k. room (b, k))))
-    (known t.broken)
+    (cases_Bool t.broken)
 
 -- ---- two lists of tests, one after the other
 
 pub first_earlier : (a b : List Test) → (first_broken a ≡ 0 → ⊥) → first_broken (a ++ b) ≡ first_broken a
 first_earlier [] b d = absurd (d refl)
 first_earlier (t ∷ a) b d =
-    ⊎_elim (λ (e : t.broken ≡ true). rw e) (λ (e : t.broken ≡ false). rw e (first_earlier a b (rw e at d))) (known t.broken)
+    ⊎_elim (λ (e : t.broken ≡ true). rw e) (λ (e : t.broken ≡ false). rw e (first_earlier a b (rw e at d))) (cases_Bool t.broken)
 
 pub first_later : (a b : List Test) → Kept a → first_broken (a ++ b) ≡ first_broken b
 first_later [] b k = refl

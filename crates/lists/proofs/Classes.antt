@@ -16,7 +16,8 @@ use Rattle.lists.specs.At.{at}
 use Rattle.lists.specs.Counting.{how_many, each, total}
 use Rattle.lists.proofs.Changed.{at_same, at_other}
 use Rattle.lists.proofs.Counting.{many_pass, many_fail, each_same, each_set}
-use Rattle.lists.proofs.Tests.{known, and_both}
+use Rattle.lists.proofs.Tests.{and_both}
+use Rattle.std.proofs.lemmas.Bool.{cases_Bool}
 use Rattle.lists.proofs.Totals.{total-same, total-none, total-at}
 
 -- how many below n pass f and have the value v by g
@@ -57,7 +58,7 @@ module _ (g : ℕ → ℕ) (f : ℕ → Bool) where
       let same = total-same (of_value g f (suc n)) (at (of_value g f n) (g n) (suc (of_value g f n (g n)))) m (λ v l. value_pass n v t) in
       omega (arith, same, before, many_pass f n t, total-at (λ (x : ℕ). x) (of_value g f n) (g n) (suc (of_value g f n (g n))) m (h n (omega arith))))
       (λ (e : f n ≡ false). omega (arith, total-same (of_value g f (suc n)) (of_value g f n) m (λ v l. value_fail n v e), before, many_fail f n e))
-      (known (f n))
+      (cases_Bool (f n))
 
 -- ---- the sum of a list of values
 

@@ -20,8 +20,10 @@ use Rattle.lists.specs.Cut.{cut}
 use Rattle.lists.proofs.Below.{below_suc}
 use Rattle.lists.proofs.Changed.{at_same, at_other}
 use Rattle.lists.proofs.Cuts.{length_cut, get_or-cut}
-use Rattle.lists.proofs.Tests.{known, clash}
-use Rattle.lists.proofs.Joined.{map-append, sets_append}
+use Rattle.lists.proofs.Tests.{clash}
+use Rattle.std.proofs.lemmas.Bool.{cases_Bool}
+use Rattle.lists.proofs.Joined.{sets_append}
+use Rattle.std.proofs.lemmas.List.{map-append}
 
 -- ---- how many
 
@@ -85,7 +87,7 @@ many_found f zero h = absurd (omega arith)
 many_found f (suc n) h =
     ⊎_elim (λ (t : f n ≡ true). (n, omega arith, t))
     (λ (e : f n ≡ false). let (i, l, t) = many_found f n (omega (arith, many_fail f n e)) in (i, omega arith, t))
-    (known (f n))
+    (cases_Bool (f n))
 
 -- of two tests of which the second holds wherever the first does: no more, and where they hold of equally many, the first holds wherever the second does
 module _ (f g : ℕ → Bool) (within : (i : ℕ) → f i ≡ true → g i ≡ true) where
@@ -95,7 +97,7 @@ module _ (f g : ℕ → Bool) (within : (i : ℕ) → f i ≡ true → g i ≡ t
   many_within (suc n) =
       ⊎_elim (λ (t : f n ≡ true). omega (arith, many_pass f n t, many_pass g n (within n t), many_within n))
       (λ (e : f n ≡ false). omega (arith, many_fail f n e, many_within n))
-      (known (f n))
+      (cases_Bool (f n))
 
   pub many_all : (n : ℕ) → how_many f n ≡ how_many g n → (i : ℕ) → i < n → g i ≡ true → f i ≡ true
   unfolding how_many
@@ -104,7 +106,7 @@ module _ (f g : ℕ → Bool) (within : (i : ℕ) → f i ≡ true → g i ≡ t
       ⊎_elim
       (λ (p : f n ≡ true). below_suc {P = λ j. g j ≡ true → f j ≡ true} n (many_all n (omega (arith, many_pass f n p, many_pass g n (within n p)))) (λ q. p) i h t)
       (λ (e : f n ≡ false). below_suc {P = λ j. g j ≡ true → f j ≡ true} n (many_all n (omega (arith, many_fail f n e, many_within n))) (λ q. absurd (omega (arith, many_fail f n e, many_pass g n q, many_within n))) i h t)
-      (known (f n))
+      (cases_Bool (f n))
 
 -- tests that agree but at i, which the second alone holds of
 pub many_but : (f g : ℕ → Bool) (n i : ℕ) → i < n → f i ≡ false → g i ≡ true → ((j : ℕ) → j < n → (j ≡ i → ⊥) → f j ≡ g j) → how_many g n ≡ suc (how_many f n)

@@ -9,3 +9,4 @@ pub mod Totals
 pub mod Classes
 pub mod Arrays
 pub mod Broken
+pub mod Slices

@@ -9,12 +9,12 @@ use native.Mathlib.Decide.{ℕ_discrete}
 use native.Mathlib.Numerals.{add-one}
 use native.Mathlib.Omega.{arith}
 use lib.Dec.{eqb}
-use lib.ListN.{length, get_or, drop, drop_of_length-le}
-use lib.Seq.{drop-cons}
+use lib.ListN.{length, get_or}
 use borrow.Author.Tests.{eq-eqb, ne_eqb}
 use Rattle.lists.specs.Search.{any, all, first_of, every_below, some_below}
 use Rattle.lists.proofs.Below.{below_suc}
-use Rattle.lists.proofs.Tests.{known, clash, not-true-false, and_left, and_right, and_both, or-none, or_left, or_right, or_cases}
+use Rattle.lists.proofs.Tests.{clash, and_left, and_right, and_both}
+use Rattle.std.proofs.lemmas.Bool.{cases_Bool, false_from_ne_true, or_parts, or_left, or_right, or_cases}
 
 module _ {A : Type 0} where
   pub any_append : (f : A → Bool) (xs ys : List A) → any f (xs ++ ys) ≡ (any f xs || any f ys)
@@ -34,16 +34,6 @@ module _ {A : Type 0} where
       (λ (t : any f xs ≡ true). let (i, h, t') = any_found f d xs t in (suc i, omega arith, t'))
       (or_cases (f x) (any f xs) e)
 
-  -- from a place on: it holds there, it does not, and at the end
-  pub any_here : (f : A → Bool) (d : A) (xs : List A) (i : ℕ) → i < length xs → f (get_or xs i d) ≡ true → any f (drop i xs) ≡ true
-  any_here f d xs i h t = rw (drop-cons xs i d h, t)
-
-  pub any_later : (f : A → Bool) (d : A) (xs : List A) (i : ℕ) → i < length xs → f (get_or xs i d) ≡ false → any f (drop i xs) ≡ any f (drop (i + 1) xs)
-  any_later f d xs i h e = rw (add-one i, drop-cons xs i d h, e)
-
-  pub any_end : (f : A → Bool) (xs : List A) (i : ℕ) → length xs ≤ i → any f (drop i xs) ≡ false
-  any_end f xs i h = rw (drop_of_length-le xs h)
-
   -- every element: the one at a place
   pub all-at : (f : A → Bool) (d : A) (xs : List A) → all f xs ≡ true → (i : ℕ) → i < length xs → f (get_or xs i d) ≡ true
   all-at f d [] e i h = absurd (omega arith)
@@ -56,7 +46,7 @@ module _ {A : Type 0} where
   all_true f d (x ∷ xs) h = and_both (h 0 (omega arith)) (all_true f d xs (λ i l. h (suc i) (omega arith)))
 
   pub all-false : (f : A → Bool) (d : A) (xs : List A) (i : ℕ) → i < length xs → f (get_or xs i d) ≡ false → all f xs ≡ false
-  all-false f d xs i h e = not-true-false (all f xs) (λ t. clash (all-at f d xs t i h) e)
+  all-false f d xs i h e = false_from_ne_true (all f xs) (λ t. clash (all-at f d xs t i h) e)
 
   -- of two lists joined
   pub all_append : (f : A → Bool) (xs ys : List A) → all f xs ≡ true → all f ys ≡ true → all f (xs ++ ys) ≡ true
@@ -76,12 +66,12 @@ module _ {A : Type 0} where
   pub first_append_some : (f : A → Bool) (d : A) (xs ys : List A) → any f xs ≡ true → first_of f d (xs ++ ys) ≡ first_of f d xs
   first_append_some f d [] ys h = absurd (clash h refl)
   first_append_some f d (x ∷ xs) ys h =
-      ⊎_elim (λ t. rw t) (λ e. rw e (first_append_some f d xs ys (rw e at h))) (known (f x))
+      ⊎_elim (λ t. rw t) (λ e. rw e (first_append_some f d xs ys (rw e at h))) (cases_Bool (f x))
 
   pub first_append_none : (f : A → Bool) (d : A) (xs ys : List A) → any f xs ≡ false → first_of f d (xs ++ ys) ≡ first_of f d ys
   first_append_none f d [] ys h = refl
   first_append_none f d (x ∷ xs) ys h =
-      let (e, rest) = or-none (f x) (any f xs) h in rw e (first_append_none f d xs ys rest)
+      let (e, rest) = or_parts (f x) (any f xs) h in rw e (first_append_none f d xs ys rest)
 
 module _ {A B : Type 0} where
   pub any-map : (f : B → Bool) (g : A → B) (xs : List A) → any f (map g xs) ≡ any (λ (x : A). f (g x)) xs
@@ -96,7 +86,7 @@ module _ {A B : Type 0} where
       → first_of f e (map g xs) ≡ g (first_of (λ (x : A). f (g x)) d xs)
   first_map f g d e [] h = absurd (clash h refl)
   first_map f g d e (x ∷ xs) h =
-      ⊎_elim (λ t. rw t) (λ n. rw n (first_map f g d e xs (rw n at h))) (known (f (g x)))
+      ⊎_elim (λ t. rw t) (λ n. rw n (first_map f g d e xs (rw n at h))) (cases_Bool (f (g x)))
 
 -- ---- numbers below a bound
 
@@ -110,7 +100,7 @@ every_at f (suc n) e i h =
     below_suc n (every_at f n (and_left (every_below f n) (f n) e)) (and_right (every_below f n) (f n) e) i h
 
 pub every_false : (f : ℕ → Bool) (n i : ℕ) → i < n → f i ≡ false → every_below f n ≡ false
-every_false f n i h e = not-true-false (every_below f n) (λ t. clash (every_at f n t i h) e)
+every_false f n i h e = false_from_ne_true (every_below f n) (λ t. clash (every_at f n t i h) e)
 
 -- tests that agree below n
 pub every_same : (f g : ℕ → Bool) (n : ℕ) → ((i : ℕ) → i < n → f i ≡ g i) → every_below f n ≡ every_below g n
@@ -124,7 +114,7 @@ some_at f (suc n) i h t =
     (λ j p s. or_left (some_below f n) (f n) (some_at f n j p s)) (λ s. or_right (some_below f n) (f n) s) i h t
 
 pub some-never : (f : ℕ → Bool) (n : ℕ) → some_below f n ≡ false → (i : ℕ) → i < n → f i ≡ false
-some-never f n e i h = not-true-false (f i) (λ t. clash (some_at f n i h t) e)
+some-never f n e i h = false_from_ne_true (f i) (λ t. clash (some_at f n i h t) e)
 
 pub some_empty : (f : ℕ → Bool) (n : ℕ) → ((i : ℕ) → i < n → f i ≡ false) → some_below f n ≡ false
 some_empty f zero h = refl

@@ -1,16 +1,15 @@
 -- Tests over lists and over the numbers below a bound.
 use Rattle.std.specs.Prelude.{Bool, true, false, cond, ◌&&◌, ◌||◌, List, [], ◌∷◌, ℕ, zero, suc}
+use Rattle.std.specs.List.{list_any, list_all}
 
 module _ {A : Type 0} where
   -- whether f holds of an element
   abbrev pub any : (A → Bool) → List A → Bool
-  any f [] = false
-  any f (x ∷ xs) = f x || any f xs
+  any f xs = list_any f xs
 
   -- whether f holds of every element
   abbrev pub all : (A → Bool) → List A → Bool
-  all f [] = true
-  all f (x ∷ xs) = f x && all f xs
+  all f xs = list_all f xs
 
   -- the first element that f holds of, d if there is none
   abbrev pub first_of : (A → Bool) → A → List A → A

@@ -12,13 +12,13 @@ use lib.ListN.{length, get_or, drop, length-append, drop_of_length-le}
 use lib.Seq.{sets, length-sets}
 use borrow.Author.Tests.{eqb-true}
 use Rattle.lists.proofs.Joined.{sets_append, sets_front}
-use Rattle.lists.proofs.Tests.{and_right}
+use Rattle.lists.proofs.Tests.{and_left, and_right}
 use Rattle.units.specs.Units.{number_of}
 use Rattle.plain.specs.Answer.{Answer}
 use Rattle.plain.specs.Run.{call, run, after}
 use Rattle.plain.specs.State.{State}
-use Rattle.machine.specs.Performing.{answer_words, formed, well_formed, call_of, calls_of, words_of}
-use Rattle.machine.proofs.PerformingCalls.{well_formed-next, calls_next, well_formed_end, calls_length}
+use Rattle.machine.specs.Performing.{answer_words, do_words, formed, well_formed, call_of, calls_of, words_of}
+use Rattle.machine.proofs.PerformingCalls.{formed_word, well_formed-next, calls_next, well_formed_end, calls_length}
 
 pub record Going (calls lent : List ℕ) (st₀ : State) (out : List ℕ) (st : State) (i o : ℕ) : Type 0 where
   pub within : i ≤ length calls
@@ -47,6 +47,12 @@ module _ (calls lent : List ℕ) (st₀ : State) where
         let e = eqb-true i (length calls) (sym (well_formed_end calls i going.within few) ∙ going.form) in
         absurd (omega arith))
         (λ (enough : ¬ (length calls - i < 4)). omega arith)
+
+    -- it begins with one of the words,
+    pub word : i < length calls → get_or calls i 0 < do_words
+    word h =
+        formed_word (get_or calls i 0) (get_or calls (i + 2) 0) (get_or calls (i + 3) 0)
+        (and_left (formed (get_or calls i 0) (get_or calls (i + 2) 0) (get_or calls (i + 3) 0)) (well_formed (drop (i + 4) calls)) (sym (well_formed-next calls i (whole h)) ∙ going.form))
 
     -- and finds room for its answer
     pub room : well_formed calls ≡ true → answer_words * length (calls_of calls) ≤ length lent → i < length calls → o + answer_words ≤ length out

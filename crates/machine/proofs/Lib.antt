@@ -3,6 +3,6 @@ pub mod PerformingCalls
 pub mod GoingOn
 pub mod PerformingList
 pub mod AnswerWords
-pub mod Program
 pub mod ReturningCall
+pub mod Program
 pub mod StartingRecord

@@ -3,10 +3,17 @@
 use mathlib.Core.List.{List, []}
 use mathlib.Core.Path.{◌≡◌, refl, sym, ap, ◌∙◌}
 use Prim.Native.Nat.{ℕ}
+use native.Mathlib.Omega.{arith}
 use lib.ListN.{replicate}
+use Rattle.std.specs.Prelude.{Err}
 use borrow.Author.Tests.{eq-eqb, ne_eqb}
 use Rattle.lists.specs.Cut.{cut}
 use Rattle.lists.proofs.Arrays.{shown-none, replicate-all}
+use Rattle.refusals.specs.Numbers.{refusal_of}
+use Rattle.refusals.proofs.Outcomes.{some_number}
+use Rattle.quorum.specs.Answer.{said, rejection_of}
+use Rattle.quorum.specs.declared.Rejected.{Rejected}
+use Rattle.quorum.specs.declared.Rejected.TheVariants.{Refused, NoCommonMember, Nested}
 use Rattle.quorum.specs.Refusal.{refusal}
 use Rattle.units.specs.Granted.{granted_of}
 use Rattle.units.specs.Units.{no_units, asked_with}
@@ -77,6 +84,17 @@ blank_fresh n stock quorums table m line lanes e = rw (idle-stations n m, empty_
 
 -- ---- what opening answers, from the refusal of the check
 
+-- a table that is rejected is refused by a number
+pub rejected-number : (r : Rejected) → (said (Err r)).refusal ≡ rejection_of r
+rejected-number (Refused refusal) = refl
+rejected-number (NoCommonMember width even family) = refl
+rejected-number (Nested width) = refl
+
+pub some_rejection : (r : Rejected) → rejection_of r ≡ 0 → ⊥
+some_rejection (Refused refusal) e = some_number refusal e
+some_rejection (NoCommonMember width even family) e = omega arith
+some_rejection (Nested width) e = omega arith
+
 module _ (n : ℕ) (stock : Units) (table : List ℕ) (room : ℕ) (r : ℕ) (said : r ≡ refusal n (asked_with stock) table room) (state : State) where
   pub opening-refused : (r ≡ 0 → ⊥) → state ≡ empty_record → state ≡ (opening n stock table room).state
   unfolding opening
@@ -86,13 +104,13 @@ module _ (n : ℕ) (stock : Units) (table : List ℕ) (room : ℕ) (r : ℕ) (sa
   unfolding opening
   opening-fresh z e = e ∙ rw (sym said, eq-eqb r 0 z)
 
-pub opening_both : (n : ℕ) (stock : Units) (table : List ℕ) (room : ℕ) (opened : Opened) → opened.refusal ≡ refusal n (asked_with stock) table room
+pub opening_both : (n : ℕ) (stock : Units) (table : List ℕ) (room : ℕ) (opened : Opened) → refusal_of opened.outcome ≡ refusal n (asked_with stock) table room
     → view opened.«record» ≡ (opening n stock table room).state → opened_of opened ≡ opening n stock table room
 unfolding opened_of opening
 opening_both n stock table room opened er es = rw (er, es)
 
 -- and what its answer means where the check refuses nothing
 pub opened_fresh : (n : ℕ) (stock : Units) (table : List ℕ) (room : ℕ) (opened : Opened) → opened_of opened ≡ opening n stock table room → refusal n (asked_with stock) table room ≡ 0
-    → (opened.refusal ≡ 0) × (view opened.«record» ≡ fresh n stock table)
+    → (refusal_of opened.outcome ≡ 0) × (view opened.«record» ≡ fresh n stock table)
 unfolding opened_of opening
 opened_fresh n stock table room opened e z = (ap (λ (o : Opening). o.refusal) e ∙ z, ap (λ (o : Opening). o.state) e ∙ rw (eq-eqb (refusal n (asked_with stock) table room) 0 z))

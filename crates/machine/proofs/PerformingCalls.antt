@@ -12,8 +12,6 @@ use lib.ListN.{length, get_or, drop, length-drop}
 use borrow.Author.Tests.{ltb-true, eq-eqb, ne_eqb}
 use Rattle.lists.proofs.Joined.{drop_four}
 use Rattle.lists.proofs.Tests.{clash, and_left, and_right}
-use Rattle.units.specs.Units.{units_of}
-use Rattle.plain.specs.Run.{Call}
 use Rattle.machine.specs.Performing.{do_words, call_numbers, formed, well_formed, call_of, calls_of}
 
 -- ---- one call
@@ -23,27 +21,6 @@ module _ (what w h : ℕ) where
   pub formed_word : formed what w h ≡ true → what < do_words
   unfolding formed
   formed_word e = ltb-true what do_words (and_left (ltb what do_words) _ e)
-
-  module _ (s : ℕ) where
-    pub call-request : what ≡ 0 → call_of what s w h ≡ Call.Request s w (units_of h)
-    unfolding call_of
-    call-request e = rw (eq-eqb what 0 e)
-
-    pub call_up : what ≡ 1 → call_of what s w h ≡ Call.Up s w
-    unfolding call_of
-    call_up e = rw e
-
-    pub call-down : what ≡ 2 → call_of what s w h ≡ Call.Down s w
-    unfolding call_of
-    call-down e = rw e
-
-    pub call-release : what ≡ 3 → call_of what s w h ≡ Call.Release s
-    unfolding call_of
-    call-release e = rw e
-
-    pub call-withdraw : (what ≡ 0 → ⊥) → (what ≡ 1 → ⊥) → (what ≡ 2 → ⊥) → (what ≡ 3 → ⊥) → call_of what s w h ≡ Call.Withdraw s
-    unfolding call_of
-    call-withdraw d₀ d₁ d₂ d₃ = rw (ne_eqb what 0 d₀, ne_eqb what 1 d₁, ne_eqb what 2 d₂, ne_eqb what 3 d₃)
 
 -- a list of one call
 pub one-formed : (what s w h : ℕ) → well_formed (what ∷ s ∷ w ∷ h ∷ []) ≡ formed what w h

@@ -1,11 +1,11 @@
--- A program that has every function of the crates up to this one, and so each of them with all that it names.
+-- A program that has the five calls, and `blank` of the opening, with every function that they need.
 -- Assumes nothing.
 use mathlib.Core.Bool.{true}
 use mathlib.Core.List.{[], ◌∷◌}
 use mathlib.Core.Path.{refl}
 use lib.Chars.{codes}
 use mir.Syntax.{Symbol}
-use prog.Linked.{Entry, World, in_world}
+use prog.Linked.{Entry, Tree, World, Holds, in_table, in_world}
 use prog.LinkedThreads.{HasT, has-wired_t, tie_t, tie_t-follows, tie_t-threads}
 use prog.Routine.{Env}
 use prog.Wired.{Code, Wired}
@@ -20,13 +20,19 @@ use Rattle.calls.proofs.release.Symbol as release
 use Rattle.calls.proofs.request.Symbol as request
 use Rattle.calls.proofs.up.Symbol as up
 use Rattle.calls.proofs.withdraw.Symbol as withdraw
-use Rattle.machine.proofs.TheLink as machine
 use Rattle.machine.proofs.opening.blank.Symbol as blank
+use Rattle.machine.proofs.opening.blank.TheLink as blank-link
+use Rattle.machine.proofs.opening.empty_lanes.Symbol as empty_lanes
+use Rattle.machine.proofs.opening.empty_lanes.TheLink as empty_lanes-link
+
+-- the functions of this crate that `blank` needs, by the order of their symbols
+abbrev opening : Tree
+opening = Tree.fork Tree.leaf "machine::opening::blank" blank-link.entry (Tree.fork Tree.leaf "machine::opening::empty_lanes" empty_lanes-link.entry Tree.leaf)
 
 abbrev world : World
 world =
     (codes "stations", stations.table) ∷ (codes "quorum", quorum.table) ∷ (codes "units", units.table) ∷ (codes "records", records.table)
-    ∷ (codes "arbiters", arbiters.table) ∷ (codes "calls", calls.table) ∷ (codes "machine", machine.table) ∷ []
+    ∷ (codes "arbiters", arbiters.table) ∷ (codes "calls", calls.table) ∷ (codes "machine", opening) ∷ []
 
 abbrev look : Symbol → Entry
 look = in_world world
@@ -38,36 +44,31 @@ a & b = (a, b)
 infixr 20 ◌&◌
 -- what the functions of a crate name of other crates
 below_quorum : quorum.Below world
-below_quorum =
-    stations.common-linked world refl tt & stations.contains-linked world refl tt & stations.count-linked world refl tt
-    & stations.everyone-linked world refl tt & stations.has-linked world refl tt & stations.only-linked world refl tt & tt
+below_quorum = stations.everyone-linked world refl tt
 
 below_units : units.Below world
-below_units = quorum.up_to-linked world refl below_quorum & tt
+below_units = quorum.up_to-linked world refl
 
 below_records : records.Below world
 below_records =
-    quorum.broken_limit-linked world refl below_quorum & units.asked_with-linked world refl below_units
-    & units.grant_in-linked world refl below_units & units.request_in-linked world refl below_units & tt
+    quorum.kept-linked world refl below_quorum & units.asked_with-linked world refl
+    & units.grant_in-linked world refl & units.request_in-linked world refl below_units & tt
 
 below_arbiters : arbiters.Below world
-below_arbiters =
-    quorum.up_to-linked world refl below_quorum & records.arbiter_in_range-linked world refl below_records & stations.only-linked world refl tt
-    & units.asked_with-linked world refl below_units & units.fits-linked world refl below_units & units.no_units-linked world refl below_units
-    & units.request_in-linked world refl below_units & units.stock_of-linked world refl below_units & units.units_of-linked world refl below_units & tt
+below_arbiters = (units.fits-linked world refl, units.no_units-linked world refl)
 
 below_calls : calls.Below world
 below_calls =
-    arbiters.deliver-linked world refl below_arbiters & records.in_range-linked world refl below_records & stations.common-linked world refl tt
+    arbiters.granted-linked world refl below_arbiters & arbiters.deliver-linked world refl below_arbiters
+    & records.in_range-linked world refl below_records & stations.common-linked world refl tt
     & stations.everyone-linked world refl tt & stations.has-linked world refl tt & stations.lowest_from-linked world refl tt
-    & units.no_units-linked world refl below_units & units.request_in-linked world refl below_units & units.units_of-linked world refl below_units & tt
+    & units.no_units-linked world refl & units.request_in-linked world refl below_units & units.units_of-linked world refl & tt
 
-below_machine : machine.Below world
-below_machine =
-    calls.down-linked world refl below_calls & calls.release-linked world refl below_calls & calls.request-linked world refl below_calls
-    & calls.up-linked world refl below_calls & calls.withdraw-linked world refl below_calls & quorum.check-linked world refl below_quorum
-    & units.asked_with-linked world refl below_units & units.no_units-linked world refl below_units & units.number_of-linked world refl below_units
-    & units.stock_of-linked world refl below_units & tt
+empty_lanes-linked : HasT look true empty_lanes.code
+empty_lanes-linked = empty_lanes-link.has look true (in_table world "machine" opening refl "machine::opening::empty_lanes" refl)
+
+blank-linked : HasT look true blank.code
+blank-linked = blank-link.has look true (in_table world "machine" opening refl "machine::opening::blank" refl) empty_lanes-linked (units.no_units-linked world refl)
 
 -- what each name means in the program
 unfoldable pub program : Env
@@ -93,4 +94,4 @@ pub withdraw-wired : Wired program withdraw.code
 withdraw-wired = wired withdraw.code (calls.withdraw-linked world refl below_calls)
 
 pub blank-wired : Wired program blank.code
-blank-wired = wired blank.code (machine.linked-machine::opening::blank world refl below_machine)
+blank-wired = wired blank.code blank-linked

@@ -1,5 +1,6 @@
 -- Opening: a fresh record of an accepted table.
 use Rattle.std.specs.Prelude.{cond, List, [], ℕ, eqb}
+use Rattle.refusals.specs.Numbers.{refusal_of}
 use Rattle.quorum.specs.Refusal.{refusal}
 use Rattle.units.specs.Units.{no_units, asked_with}
 use Rattle.units.specs.declared.Units.{Units}
@@ -23,4 +24,4 @@ opening n stock table room =
 
 -- what the code's answer says
 unfoldable pub opened_of : Opened → Opening
-opened_of o = record { refusal = o.refusal; state = view o.«record» }
+opened_of o = record { refusal = refusal_of o.outcome; state = view o.«record» }

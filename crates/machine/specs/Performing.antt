@@ -1,6 +1,7 @@
 -- A lent list of calls, as numbers, and the numbers that answer it.
 use Rattle.std.specs.Prelude.{Bool, true, false, cond, not, ◌&&◌, ◌||◌, List, [], ◌∷◌, ◌++◌, ℕ, ◌*◌, eqb, ltb, length, drop}
 use Rattle.lists.specs.Broken.{Test, ◌when◌, first_broken}
+use Rattle.refusals.specs.Numbers.{refusal_of}
 use Rattle.units.specs.Units.{units_of, number_of}
 use Rattle.plain.specs.Answer.{Answer}
 use Rattle.plain.specs.Run.{Call, run, after}
@@ -90,4 +91,4 @@ answers_in st calls out =
 
 -- what the code's answer says
 unfoldable pub performed_of : Performed → Performance
-performed_of p = record { refusal = p.refusal; state = view p.«record» }
+performed_of p = record { refusal = refusal_of p.outcome; state = view p.«record» }

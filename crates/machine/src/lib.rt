@@ -1,7 +1,7 @@
 // The machine: a fresh record of an accepted table, and lists of calls on a record.
 #![tactic(auto)]
 
-ghost use Rattle.std.specs.Prelude.{◌≡◌, ◌<◌, length};
+ghost use Rattle.std.specs.Prelude.{◌≡◌, OnErr, length};
 ghost use Rattle.quorum.specs.Answer.{said, answer};
 ghost use Rattle.quorum.specs.Scratch.{cleaned};
 ghost use Rattle.records.specs.View.{view};
@@ -9,13 +9,16 @@ ghost use Rattle.units.specs.Units.{asked_with as asked_with_rule, stock_of as s
 ghost use Rattle.machine.specs.Opening.{opening, opened_of};
 ghost use Rattle.machine.specs.Performing.{performance, performed_of, answers_in};
 
-use quorum::Checked;
+use quorum::{Accepted, Rejected};
 use records::Record;
+use refusals::Refusal;
 
 mod call_lists;
+mod doing;
 mod opening;
 
 pub use call_lists::is_formed;
+pub use doing::Do;
 
 // Whether a list of numbers is a list of calls of the form.
 pub use call_lists::all_formed;
@@ -27,37 +30,25 @@ pub const CALL_NUMBERS: usize = 4;
 
 pub const ANSWER_NUMBERS: usize = 4;
 
-pub const DO_REQUEST: u16 = 0;
-
-pub const DO_UP: u16 = 1;
-
-pub const DO_DOWN: u16 = 2;
-
-pub const DO_RELEASE: u16 = 3;
-
-pub const DO_WITHDRAW: u16 = 4;
-
-// How many words `do` has.
-pub const WORDS_OF_DO: u16 = 5;
-
-// What a list of calls answers besides the numbers: whether the list was refused, and the record after it.
+// What a list of calls answers besides the numbers: whether the list was refused, and the record after it. A refused list hands back the record that it
+// was given.
 #[derive(Clone, Copy)]
 pub struct Performed {
-    pub refusal: u8,
+    pub outcome: Result<(), Refusal>,
     pub record: Record,
 }
 
 // What opening answers with all that the check says of the table.
 #[derive(Clone, Copy)]
 pub struct Inspected {
-    pub checked: Checked,
+    pub checked: Result<Accepted, Rejected>,
     pub record: Record,
 }
 
 // What opening answers.
 #[derive(Clone, Copy)]
 pub struct Opened {
-    pub refusal: u8,
+    pub outcome: Result<(), Refusal>,
     pub record: Record,
 }
 
@@ -70,13 +61,10 @@ pub fn inspect(n: usize, k: usize, quorums: &[u16], scratch: &mut [u8]) -> Inspe
 {
     let stock = units::stock_of(k);
     let checked = quorum::check(n, units::asked_with(stock), quorums, scratch);
-    if checked.refusal != refusals::NO_REFUSAL {
-        return Inspected {
-            checked,
-            record: opening::blank(0, units::no_units(), 0, [0u16; quorum::MOST_QUORUMS]),
-        };
-    }
-    let record = opening::fresh(n, stock, quorums);
+    let record = match checked {
+        Ok(_) => opening::fresh(n, stock, quorums),
+        Err(_) => opening::empty(),
+    };
     Inspected { checked, record }
 }
 
@@ -85,37 +73,29 @@ pub fn open(n: usize, k: usize, quorums: &[u16], scratch: &mut [u8]) -> Opened
     ensures opened { opened_of result ≡ opening n (stock_of_rule k) quorums.now (length scratch.old) }
     ensures cleaned { scratch.new ≡ cleaned scratch.old }
 {
-    let inspected = inspect(n, k, quorums, scratch);
-    let checked = inspected.checked;
-    let record = inspected.record;
-    Opened {
-        refusal: checked.refusal,
-        record,
-    }
+    let Inspected { checked, record } = inspect(n, k, quorums, scratch);
+    let outcome = match checked {
+        Ok(_) => Ok(()),
+        Err(rejected) => Err(rejected.refusal()),
+    };
+    Opened { outcome, record }
 }
 
 // A lent list of calls, each on the record that the one before returned, and their answers in a lent buffer. A list that is not of the form
 // (15), or whose answers find no room (16), is refused as a whole.
 pub fn perform(r: Record, calls: &[u16], answers: &mut [u16]) -> Performed
     ensures performed { performed_of result ≡ performance (view r) calls.now (length answers.old) }
-    ensures refused { 0 < result.refusal → result.«record» ≡ r }
+    ensures refused { OnErr result.outcome (result.«record» ≡ r) }
     ensures answers { answers.new ≡ answers_in (view r) calls.now answers.old }
 {
-    if !call_lists::all_formed(calls) {
-        return Performed {
-            refusal: refusals::BAD_FORM,
+    match call_lists::tested(calls, answers.len()) {
+        Ok(()) => Performed {
+            outcome: Ok(()),
+            record: call_lists::run(r, calls, answers),
+        },
+        Err(refusal) => Performed {
+            outcome: Err(refusal),
             record: r,
-        };
-    }
-    if answers.len() / ANSWER_NUMBERS < calls.len() / CALL_NUMBERS {
-        return Performed {
-            refusal: refusals::SHORT_BUFFER,
-            record: r,
-        };
-    }
-    let record = call_lists::run(r, calls, answers);
-    Performed {
-        refusal: refusals::NO_REFUSAL,
-        record,
+        },
     }
 }

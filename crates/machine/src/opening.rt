@@ -4,6 +4,7 @@ ghost use Rattle.lists.specs.Cut.{cut};
 ghost use Rattle.plain.specs.State.{fresh as fresh_of};
 ghost use Rattle.quorum.specs.Limits.{most_stations, most_quorums};
 ghost use Rattle.records.specs.View.{lanes_of, view};
+ghost use Rattle.machine.specs.Opening.{empty_record};
 
 use plain::{Entry, Message, Phase};
 use records::{Arbiter, LINE_PLACES, Lane, Lanes, Record, Row, STATIONS, Slot, Station, UP_PLACES};
@@ -15,16 +16,15 @@ fn copied(quorums: &[u16]) -> [u16; quorum::MOST_QUORUMS]
     ensures { cut 0 (length quorums.now) result ≡ quorums.now }
 {
     let mut table = [0u16; quorum::MOST_QUORUMS];
-    let mut p: usize = 0;
-    while p < quorums.len() {
-        table[p] = quorums[p];
-        p += 1;
+    // a `for`: `copy_from_slice` needs C's memmove in the static library
+    for (p, quorum) in quorums.iter().enumerate() {
+        table[p] = *quorum;
     }
     table
 }
 
 // Lanes with nothing in them.
-fn empty_lanes() -> Lanes
+pub(crate) fn empty_lanes() -> Lanes
     ensures { (n : ℕ) → lanes_of n result ≡ (λ s j. []) }
 {
     let slot = Slot {
@@ -68,6 +68,13 @@ pub(crate) fn blank(n: u8, stock: Units, quorums: u8, table: [u16; quorum::MOST_
         up: lanes,
         down: lanes,
     }
+}
+
+// The empty record.
+pub(crate) fn empty() -> Record
+    ensures { view result ≡ empty_record }
+{
+    blank(0, units::no_units(), 0, [0; quorum::MOST_QUORUMS])
 }
 
 // A fresh record of the table.

@@ -8,7 +8,7 @@ use Rattle.lists.specs.Counting.{each, how_many, total}
 use Rattle.stations.specs.Member.{member}
 use Rattle.stations.specs.Sets.{contains, set_of, lowest_among, lowest_from}
 use Rattle.quorum.specs.Answer.{answer, answer_to}
-use Rattle.quorum.specs.Even.{belongs, even}
+use Rattle.quorum.specs.Even.{even}
 use Rattle.quorum.specs.Family.{quorum as quorum_at, common_within, families}
 use Rattle.quorum.specs.FirstFamily.{first_family}
 use Rattle.quorum.specs.Limits.{broken_limit}
@@ -113,5 +113,5 @@ pub marked :
     -- P12
     ∷ Says.calls (done ∷ done ∷ done ∷ done ∷ enters 1 ∷ done ∷ done ∷ refuses 13 ∷ [])
     ∷ [])
-unfolding answer answer_to refusal nested even belongs how_many width emptied least_size first_family lacks_common common_within families broken_limit member contains cube_table each cube_quorum set_of agree coordinate lowest_among lowest_from at total fresh answered arrived fits serve units_in onward taken received_as received returning down goes_up goes_down keeps phase_in entry_in arbiter_in in_range releasing release_refusal given_back released release request_refusal requested request call run replying granting delivery_refusal delivered_of delivered up request_in grant_in asked_with units_of stock_of
+unfolding answer answer_to refusal nested even how_many width emptied least_size first_family lacks_common common_within families broken_limit member contains cube_table each cube_quorum set_of agree coordinate lowest_among lowest_from at total fresh answered arrived fits serve units_in onward taken received_as received returning down goes_up goes_down keeps phase_in entry_in arbiter_in in_range releasing release_refusal given_back released release request_refusal requested request call run replying granting delivery_refusal delivered_of delivered up request_in grant_in asked_with units_of stock_of
 marked = refl

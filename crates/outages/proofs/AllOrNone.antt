@@ -8,7 +8,8 @@ use lib.Dec.{eqb}
 use borrow.Author.Tests.{eqb-true}
 use Rattle.lists.proofs.Counting.{many_none, many_some}
 use Rattle.lists.proofs.Searches.{any_at, any_found}
-use Rattle.lists.proofs.Tests.{and_left, and_right, not-true-false}
+use Rattle.lists.proofs.Tests.{and_left, and_right}
+use Rattle.std.proofs.lemmas.Bool.{false_from_ne_true}
 use Rattle.stations.specs.Member.{member}
 use Rattle.stations.specs.Sets.{contains, count_below}
 use Rattle.stations.proofs.Choosing.{choose-all}
@@ -35,7 +36,7 @@ module _ (n k : ℕ) (table : List ℕ) (limits : Limits n k table) where
   unfolding survivals works
   none_work =
       many_none (survives n table 0) (2 ^ n)
-      (λ set l. not-true-false (survives n table 0 set) (λ t.
+      (λ set l. false_from_ne_true (survives n table 0 set) (λ t.
       let (p, h, e) = any_found (contains set) 0 table (and_right (eqb (count_below set n) 0) (works table set) t) in
       let (i, m) = some-member (quorum table p) (limits.members p h).0 in
       let works-too = contains-members set (quorum table p) e i m in

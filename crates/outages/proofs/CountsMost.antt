@@ -8,7 +8,8 @@ use native.Mathlib.Omega.{arith}
 use lib.Dec.{eqb}
 use borrow.Author.Tests.{eqb-true, eq-eqb}
 use Rattle.lists.proofs.Counting.{many_within, many_all, many_none, many_same}
-use Rattle.lists.proofs.Tests.{and_left, and_right, and-within, not-true-false}
+use Rattle.lists.proofs.Tests.{and_left, and_right, and-within}
+use Rattle.std.proofs.lemmas.Bool.{false_from_ne_true}
 use Rattle.stations.specs.Sets.{count_below}
 use Rattle.stations.specs.Sizes.{choose}
 use Rattle.stations.proofs.Counts.{count_le}
@@ -31,7 +32,7 @@ module _ (n : ℕ) (table : List ℕ) (u : ℕ) where
   -- none beyond n
   pub count_beyond : n < u → survivals n table u ≡ 0
   unfolding survivals
-  count_beyond h = many_none surviving (2 ^ n) (λ set l. not-true-false (surviving set) (λ t. omega (arith, eqb-true (count_below set n) u (and_left (sized set) (works table set) t), count_le set n)))
+  count_beyond h = many_none surviving (2 ^ n) (λ set l. false_from_ne_true (surviving set) (λ t. omega (arith, eqb-true (count_below set n) u (and_left (sized set) (works table set) t), count_le set n)))
 
   -- every set of u stations contains a quorum
   abbrev pub EverySet : Type 0

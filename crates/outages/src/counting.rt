@@ -14,13 +14,10 @@ pub(crate) fn count_sets(n: usize, quorums: &[u16]) -> [u16; SIZES]
 {
     let mut counts = [0u16; SIZES];
     let last = stations::everyone(n);
-    let mut set: u16 = 0;
-    while set <= last {
+    for set in 0..=last {
         if working::works(quorums, set) {
-            let members = stations::count(set);
-            counts[members] += 1;
+            counts[stations::count(set)] += 1;
         }
-        set += 1;
     }
     counts
 }

@@ -2,6 +2,8 @@
 // every arbiter to collect and again to give back.
 #![tactic(auto)]
 
+ghost use Rattle.std.specs.Prelude.{◌<◌};
+
 use records::Record;
 use std::io;
 
@@ -18,31 +20,40 @@ struct Tally {
     record: Record,
 }
 
-fn number(rt: &impl Print, key: &[u8], value: usize) -> io::Result<()> {
-    rt.write_all(key)?;
-    print!(rt; "{value}")
+// Counts go no further.
+const MOST_COUNTED: usize = 1000000;
+
+// So many more, as far as the count has room.
+fn more(count: usize, by: usize) -> usize
+    requires { by < 65536 }
+{
+    if count < MOST_COUNTED {
+        count + by
+    } else {
+        count
+    }
 }
 
-// One more call is counted, as far as the counts have room.
+// One more call is counted.
 fn counted(t: Tally, a: calls::Answer) -> Tally {
-    let mut next = t;
     let record = a.record;
-    next.record = record;
-    if t.entered < 1000000 {
-        next.entered = t.entered + units::number_of(a.entered) as usize;
+    match a.outcome {
+        Ok(returned) => Tally {
+            entered: more(t.entered, units::number_of(returned.entered) as usize),
+            left: more(t.left, units::number_of(returned.left) as usize),
+            refused: t.refused,
+            record,
+        },
+        Err(_) => Tally {
+            entered: t.entered,
+            left: t.left,
+            refused: more(t.refused, 1),
+            record,
+        },
     }
-    if t.left < 1000000 {
-        next.left = t.left + units::number_of(a.left) as usize;
-    }
-    if a.refusal != refusals::NO_REFUSAL {
-        if t.refused < 1000000 {
-            next.refused = t.refused + 1;
-        }
-    }
-    next
 }
 
-// Up and Down at every arbiter.
+// Up and Down at every arbiter. Not one with `clear`: that makes another call.
 fn collect(t: Tally, s: usize) -> Tally {
     let mut next = t;
     for j in 0..records::STATIONS {
@@ -85,9 +96,9 @@ fn main(rt: HostRuntime) -> io::Result<()> {
     let mut scratch = [0u8; quorum::SCRATCH_BYTES];
     let opened = machine::open(12, 200, &[4095u16], &mut scratch);
     let t = rounds(opened.record);
-    number(&rt, b"calls=", ROUNDS * CALLS_A_ROUND)?;
-    number(&rt, b" entered=", t.entered)?;
-    number(&rt, b" left=", t.left)?;
-    number(&rt, b" refused=", t.refused)?;
-    rt.write_all(b"\n")
+    let calls = ROUNDS * CALLS_A_ROUND;
+    println!(rt;
+        "calls={calls} entered={} left={} refused={}",
+        t.entered, t.left, t.refused
+    )
 }

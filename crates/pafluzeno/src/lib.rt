@@ -1,52 +1,29 @@
 // The calls that a station makes from C or Rust, under the names of interface/pafluzeno.h.
 #![tactic(auto)]
 
-ghost use Rattle.std.specs.Prelude.{◌≡◌, ◌<◌, length};
-ghost use Rattle.arbiters.specs.Lent.{lent_of};
-ghost use Rattle.outages.specs.Answer.{laid, answer as outages_of};
-ghost use Rattle.quorum.specs.Answer.{said as checked_says, answer};
-ghost use Rattle.quorum.specs.Limits.{most_stations};
+ghost use Rattle.std.specs.Prelude.{◌≡◌, length};
+ghost use Rattle.quorum.specs.Answer.{answer};
 ghost use Rattle.quorum.specs.Scratch.{cleaned};
-ghost use Rattle.records.specs.View.{arbiter_of};
 ghost use Rattle.stations.specs.Sets.{next_from};
-ghost use Rattle.tables.specs.Cube.{cube_table, cube_refusal};
-ghost use Rattle.tables.specs.Made.{said as made_says, answer as making, written};
-ghost use Rattle.tables.specs.Singleton.{singleton_table, singleton_refusal};
-ghost use Rattle.tables.specs.Uniform.{uniform_table, uniform_refusal};
-ghost use Rattle.units.specs.Units.{stock_of};
-ghost use Rattle.pafluzeno.specs.Arriving.{arriving};
+ghost use Rattle.pafluzeno.specs.Checks.{checked_says, next_says};
 
+mod arrivals;
+mod checks;
 mod journal;
+mod makers;
+mod survivals;
+mod tallies;
+mod writing;
 
-use arbiters::{Incoming, Reply, Settled, Upward};
+pub use arrivals::{Arrival, MessageKind, Reply, pafluzeno_tell};
+pub use checks::{Checked, NextMember};
 pub use journal::{
-    Part, pafluzeno_after_record, pafluzeno_page, pafluzeno_read_line, pafluzeno_read_record,
-    pafluzeno_tally, pafluzeno_write_record,
+    Part, ReadRecord, pafluzeno_after_record, pafluzeno_read_line, pafluzeno_read_record,
 };
-use outages::Counted;
-use quorum::Checked;
-use records::Arbiter;
-use stations::NextMember;
-use tables::Made;
-
-// The messages by number, and how many they are.
-pub const MESSAGE_RELEASE: u8 = 0;
-
-pub const MESSAGE_REQUEST: u8 = 1;
-
-pub const MESSAGE_WITHDRAW: u8 = 2;
-
-pub const MESSAGES: u8 = 3;
-
-// A message that reaches a station's own arbiter: the stock, the station that sent it, the number of the message, and the units of a REQUEST.
-#[repr(C)]
-#[derive(Clone, Copy)]
-pub struct Arrival {
-    pub stock: usize,
-    pub station: usize,
-    pub message: u8,
-    pub units: usize,
-}
+pub use makers::{Made, pafluzeno_cube, pafluzeno_singleton, pafluzeno_uniform};
+pub use survivals::{Counted, pafluzeno_outages};
+pub use tallies::{Sum, Totals, pafluzeno_tally};
+pub use writing::{Printed, Written, pafluzeno_page, pafluzeno_write_record};
 
 // The check of a table.
 #[unsafe(no_mangle)]
@@ -59,111 +36,13 @@ pub extern "C" fn pafluzeno_check(
     ensures answered { checked_says result ≡ answer n k quorums.now (length scratch.old) }
     ensures cleaned { scratch.new ≡ cleaned scratch.old }
 {
-    quorum::check(n, k, quorums, scratch)
-}
-
-// One quorum of one of n stations.
-#[unsafe(no_mangle)]
-pub extern "C" fn pafluzeno_singleton(n: usize, station: usize, out: &mut [u16]) -> Made
-    ensures answered { made_says result ≡ making (singleton_refusal n station (length out.old)) (singleton_table station) }
-    ensures written { out.new ≡ written (singleton_refusal n station (length out.old)) (singleton_table station) out.old }
-{
-    tables::singleton(n, station, out)
-}
-
-// All sets of floor(k × n / (k + 1)) + 1 of n stations, by ascending number.
-#[unsafe(no_mangle)]
-pub extern "C" fn pafluzeno_uniform(n: usize, k: usize, out: &mut [u16]) -> Made
-    ensures answered { made_says result ≡ making (uniform_refusal n k (length out.old)) (uniform_table n k) }
-    ensures written { out.new ≡ written (uniform_refusal n k (length out.old)) (uniform_table n k) out.old }
-{
-    tables::uniform(n, k, out)
-}
-
-// For each of a^(k + 1) stations the quorum of those that agree with it in at least one coordinate.
-#[unsafe(no_mangle)]
-pub extern "C" fn pafluzeno_cube(a: usize, k: usize, out: &mut [u16]) -> Made
-    ensures answered { made_says result ≡ making (cube_refusal a k (length out.old)) (cube_table a k) }
-    ensures written { out.new ≡ written (cube_refusal a k (length out.old)) (cube_table a k) out.old }
-{
-    tables::cube(a, k, out)
-}
-
-// The sets of working stations that contain a whole quorum, counted by their size.
-#[unsafe(no_mangle)]
-pub extern "C" fn pafluzeno_outages(
-    n: usize,
-    k: usize,
-    quorums: &[u16],
-    scratch: &mut [u8],
-) -> Counted
-    ensures answered { result ≡ laid (outages_of n k quorums.now (length scratch.old)) }
-    ensures cleaned { scratch.new ≡ cleaned scratch.old }
-{
-    outages::count(n, k, quorums, scratch)
+    quorum::check(n, k, quorums, scratch).into()
 }
 
 // The next member of a quorum from a station on, 16 if there is none, and how many members lie above it.
 #[unsafe(no_mangle)]
 pub extern "C" fn pafluzeno_next_member(quorum: u16, from: usize) -> NextMember
-    ensures { result ≡ next_from quorum from }
+    ensures { next_says result ≡ next_from quorum from }
 {
-    stations::lowest_from(quorum, from)
-}
-
-// The message in the machine's own form.
-fn settled(a: Arbiter, m: Arrival) -> Settled
-    ensures { (lent_of result.reply result.arbiter ≡ arriving (stock_of m.stock) m.station m.message m.units (arbiter_of most_stations a)) × (0 < result.reply.refusal → result.arbiter ≡ a) }
-{
-    let stock = m.stock;
-    let station = m.station;
-    let message = m.message;
-    if MESSAGES <= message {
-        return Settled {
-            reply: Reply {
-                refusal: refusals::BAD_FORM,
-                granted: 0,
-            },
-            arbiter: a,
-        };
-    }
-    if message == MESSAGE_REQUEST {
-        return arbiters::settle(
-            a,
-            Incoming {
-                stock,
-                station,
-                message: Upward::Request(m.units),
-            },
-        );
-    }
-    if message == MESSAGE_WITHDRAW {
-        return arbiters::settle(
-            a,
-            Incoming {
-                stock,
-                station,
-                message: Upward::Withdraw,
-            },
-        );
-    }
-    arbiters::settle(
-        a,
-        Incoming {
-            stock,
-            station,
-            message: Upward::Release,
-        },
-    )
-}
-
-// A station lends its own arbiter's record to one call for each message that reaches it. The call applies the arbiter's part of Up and
-// answers the set of stations granted; a refusal answers the empty set and changes nothing.
-#[unsafe(no_mangle)]
-pub extern "C" fn pafluzeno_tell(a: &mut Arbiter, m: Arrival) -> Reply
-    ensures { (lent_of result a.new ≡ arriving (stock_of m.stock) m.station m.message m.units (arbiter_of most_stations a.old)) × (0 < result.refusal → a.new ≡ a.old) }
-{
-    let settled = settled(*a, m);
-    *a = settled.arbiter;
-    settled.reply
+    stations::lowest_from(quorum, from).into()
 }

@@ -11,7 +11,8 @@ use Rattle.lists.specs.At.{at}
 use Rattle.lists.specs.Search.{all, every_below}
 use Rattle.lists.proofs.Changed.{at_all}
 use Rattle.lists.proofs.Searches.{every_true, every_at}
-use Rattle.lists.proofs.Tests.{known, and_left, and_right, and_both}
+use Rattle.lists.proofs.Tests.{and_left, and_right, and_both}
+use Rattle.std.proofs.lemmas.Bool.{cases_Bool}
 use Rattle.units.specs.Units.{request_in, grant_in, fits}
 use Rattle.units.specs.declared.Units.{Units}
 use Rattle.units.proofs.Ranges.{none-granted, request-granted}
@@ -72,7 +73,7 @@ module _ (n : ℕ) (stock : Units) where
   serve_in g (x ∷ line) h e s l =
       ⊎_elim (λ (t : fits n stock g x.units ≡ true). rw t (serve_in (at g x.station x.units) line (λ t b. at_all (λ y. grant_in stock y ≡ true) g x.station x.units small t (h t b)) (and_right (entry_in n stock x) (all (entry_in n stock) line) e) s l))
       (λ (f : fits n stock g x.units ≡ false). rw f (h s l))
-      (known (fits n stock g x.units))
+      (cases_Bool (fits n stock g x.units))
     where
       small : grant_in stock x.units ≡ true
       small = request-granted stock x.units (and_right (ltb x.station n) (request_in stock x.units) (and_left (entry_in n stock x) (all (entry_in n stock) line) e))

@@ -10,7 +10,8 @@ use lib.Dec.{leb, ltb}
 use lib.ListN.{length}
 use borrow.Author.Tests.{ltb-true, leb-true, leb-false}
 use Rattle.lists.specs.Counting.{total}
-use Rattle.lists.proofs.Tests.{either, known, and_left}
+use Rattle.lists.proofs.Tests.{either, and_left}
+use Rattle.std.proofs.lemmas.Bool.{cases_Bool}
 use Rattle.lists.proofs.Totals.{total-within}
 use Rattle.quorum.specs.Accepted.{Accepted}
 use Rattle.quorum.specs.Arbiter.{InAll}
@@ -75,7 +76,7 @@ module _ (st : State) (range : Ranged st) (inv : Invariant st) (a : Amount) wher
       go (Collecting q u m) f = omega arith
       go (Holding q u) f =
           ⊎_elim (λ (t : leb 1 (amount a u) ≡ true). rw t (omega (arith, leb-true 1 (amount a u) t))) (λ (t : leb 1 (amount a u) ≡ false). rw t (omega arith))
-          (known (leb 1 (amount a u)))
+          (cases_Bool (leb 1 (amount a u)))
       go Withdrawing f = omega arith
 
   one_more : (i : ℕ) → length (holders (suc i)) ≤ suc (length (holders i))
@@ -112,7 +113,7 @@ module _ (st : State) (range : Ranged st) (inv : Invariant st) (a : Amount) wher
       go (Holding q u) e x before =
           ⊎_elim (λ (t : leb 1 (amount a u) ≡ true). holder q u e (rw t at x) before)
           (λ (t : leb 1 (amount a u) ≡ false). omega (arith, leb-false 1 (amount a u) t, before (rw t at x)))
-          (known (leb 1 (amount a u)))
+          (cases_Bool (leb 1 (amount a u)))
 
   -- station by station: the holders so far and the next are at most one more than the stock has of the amount, which is at most the k that
   -- the table was asked with, so their quorums have a common member, which has granted what they hold; and no arbiter grants more than the

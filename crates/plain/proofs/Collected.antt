@@ -12,7 +12,7 @@ use borrow.Author.Tests.{le-ltb}
 use Rattle.lists.specs.At.{at}
 use Rattle.lists.specs.Counting.{total}
 use Rattle.lists.proofs.Changed.{at_same, at_other}
-use Rattle.lists.proofs.Tests.{known}
+use Rattle.std.proofs.lemmas.Bool.{cases_Bool}
 use Rattle.lists.proofs.Totals.{total-same}
 use Rattle.stations.specs.Member.{member}
 use Rattle.stations.specs.Sets.{places, lowest_from}
@@ -71,7 +71,7 @@ module _ (a : Amount) (s p : ℕ) (h : Units) (load : ℕ → ℕ) (was : ℕ �
       (λ (o : member (quorum st.table p) i ≡ false).
       rw (visits_other st (quorum st.table p) s i more o)
       (all_visited more (suc i) st (pass_by a st was s p h i load v (omega (arith, station_place st.n st.stock st.table (ranged st v.range).limits)) o) (omega arith) exists number (λ j l. room j (omega arith))))
-      (known (member (quorum st.table p) i))
+      (cases_Bool (member (quorum st.table p) i))
 
 -- what comes of it
 pub record Collected (a : Amount) (st next : State) (s p : ℕ) (h : Units) (load : ℕ → ℕ) : Type 0 where

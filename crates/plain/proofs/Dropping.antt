@@ -10,7 +10,8 @@ use lib.Dec.{eqb}
 use lib.ListN.{length}
 use borrow.Author.Tests.{le-leb, ne_eqb, eqb-true}
 use Rattle.lists.specs.Search.{all}
-use Rattle.lists.proofs.Tests.{known, and_left, and_right, and_both}
+use Rattle.lists.proofs.Tests.{and_left, and_right, and_both}
+use Rattle.std.proofs.lemmas.Bool.{cases_Bool}
 use Rattle.units.specs.declared.Units.{Units}
 use Rattle.plain.specs.Arbiter.{without, units_in}
 use Rattle.plain.specs.Lanes.{keeps}
@@ -24,7 +25,7 @@ module _ (s : ℕ) where
   unfolding without units_in
   without_own [] = refl
   without_own (e ∷ line) =
-      ⊎_elim (λ (t : eqb e.station s ≡ true). rw t (without_own line)) (λ (f : eqb e.station s ≡ false). rw f (rw f (without_own line))) (known (eqb e.station s))
+      ⊎_elim (λ (t : eqb e.station s ≡ true). rw t (without_own line)) (λ (f : eqb e.station s ≡ false). rw f (rw f (without_own line))) (cases_Bool (eqb e.station s))
 
   pub without-others : (t : ℕ) → (t ≡ s → ⊥) → (line : List Entry) → units_in t (without s line) ≡ units_in t line
   unfolding without units_in
@@ -32,7 +33,7 @@ module _ (s : ℕ) where
   without-others t d (e ∷ line) =
       ⊎_elim (λ (o : eqb e.station s ≡ true). rw (o, ne_eqb e.station t (λ z. d (sym z ∙ eqb-true e.station s o))) (without-others t d line))
       (λ (f : eqb e.station s ≡ false). rw f (ap (λ (us : List Units). cond (eqb e.station t) (e.units ∷ us) us) (without-others t d line)))
-      (known (eqb e.station s))
+      (cases_Bool (eqb e.station s))
 
   -- ---- it keeps what the line kept
 
@@ -41,14 +42,14 @@ module _ (s : ℕ) where
   without-short [] = omega arith
   without-short (e ∷ line) =
       ⊎_elim (λ (t : eqb e.station s ≡ true). rw t (omega (arith, without-short line))) (λ (f : eqb e.station s ≡ false). rw f (omega (arith, without-short line)))
-      (known (eqb e.station s))
+      (cases_Bool (eqb e.station s))
 
   pub without_all : (f : Entry → Bool) (line : List Entry) → all f line ≡ true → all f (without s line) ≡ true
   unfolding without
   without_all f [] h = refl
   without_all f (e ∷ line) h =
       let rest = without_all f line (and_right (f e) (all f line) h) in
-      ⊎_elim (λ (t : eqb e.station s ≡ true). rw t rest) (λ (d : eqb e.station s ≡ false). rw d (and_both (and_left (f e) (all f line) h) rest)) (known (eqb e.station s))
+      ⊎_elim (λ (t : eqb e.station s ≡ true). rw t rest) (λ (d : eqb e.station s ≡ false). rw d (and_both (and_left (f e) (all f line) h) rest)) (cases_Bool (eqb e.station s))
 
   pub keeps-without : (limit : ℕ) (f : Entry → Bool) (line : List Entry) → keeps limit f line ≡ true → keeps limit f (without s line) ≡ true
   unfolding keeps

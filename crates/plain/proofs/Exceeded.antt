@@ -7,7 +7,7 @@ use mathlib.Core.Path.{◌≡◌, refl, sym, ap, ◌∙◌}
 use Prim.Native.Nat.{ℕ, suc, ◌+◌, ◌-◌, ◌≤◌, ◌<◌}
 use native.Mathlib.Omega.{arith}
 use lib.ListN.{length}
-use Rattle.lists.proofs.Tests.{known}
+use Rattle.std.proofs.lemmas.Bool.{cases_Bool}
 use Rattle.lists.proofs.Totals.{total-none}
 use Rattle.stations.specs.Member.{member}
 use Rattle.quorum.specs.Arbiter.{InAll}
@@ -66,7 +66,7 @@ module _ (a : Amount) where
       (λ (le : load j + r ≤ amount a st.stock). inr (omega arith))
       (room j l)))
       (λ (b : member (quorum st.table p) j ≡ false). rw b (inr (⊎_elim (λ x. omega (arith, x.1)) (λ (le : load j + r ≤ amount a st.stock). omega arith) (room j l))))
-      (known (member (quorum st.table p) j))
+      (cases_Bool (member (quorum st.table p) j))
 
   -- where there is room for so much of the amount, it fits
   room_fits : (st : State) (x load : ℕ) → x + load ≤ amount a st.stock → FitsBeside a st (only a x) load

@@ -12,7 +12,8 @@ use lib.ListN.{length}
 use borrow.Author.Tests.{eq-eqb, ne_eqb, ltb-true}
 use Rattle.lists.specs.At.{at, at2}
 use Rattle.lists.proofs.Changed.{at_same, at_other, at_all}
-use Rattle.lists.proofs.Tests.{known, and_left}
+use Rattle.lists.proofs.Tests.{and_left}
+use Rattle.std.proofs.lemmas.Bool.{cases_Bool}
 use Rattle.stations.specs.Member.{member}
 use Rattle.stations.specs.Sets.{lowest_from}
 use Rattle.quorum.specs.Family.{quorum}
@@ -285,4 +286,4 @@ module _ (st : State) (s q : ℕ) (h : Units) (r : Releases st s q h) (i : Invar
       own x =
           ⊎_elim (λ (b : member (quorum st.table q) x ≡ true). rw (releasing-member (quorum st.table q) (st.up s) x b) (sends-release (rw (share_member st.table q h x b) at (before x))))
           (λ (b : member (quorum st.table q) x ≡ false). rw (releasing_other (quorum st.table q) (st.up s) x b) (rw (share_other st.table q h x b) at (before x)))
-          (known (member (quorum st.table q) x))
+          (cases_Bool (member (quorum st.table q) x))

@@ -10,7 +10,7 @@ use native.Mathlib.Decide.{ℕ_discrete, dec_lt}
 use native.Mathlib.Omega.{arith}
 use Rattle.lists.specs.At.{at}
 use Rattle.lists.proofs.Changed.{at_same, at_other}
-use Rattle.lists.proofs.Tests.{known}
+use Rattle.std.proofs.lemmas.Bool.{cases_Bool}
 use Rattle.stations.specs.Member.{member}
 use Rattle.quorum.specs.Family.{quorum}
 use Rattle.units.specs.declared.Units.{Units}
@@ -54,7 +54,7 @@ module _ (st : State) (s q : ℕ) (h : Units) (m : ℕ) (w : Withdraws st s q h 
           let mine = rw (wants_below st.table (i.leaving s) q h m x l) at (before x) in
           ⊎_elim (λ (b : member set x ≡ true). rw (withdrawing-member set m (st.up s) x l b) (sends-release (rw (share_member st.table q h x b) at mine)))
           (λ (b : member set x ≡ false). rw (withdrawing_other set m (st.up s) x l b) (rw (share_other st.table q h x b) at mine))
-          (known (member set x))
+          (cases_Bool (member set x))
 
       own : (x : ℕ) → Pair (wants st.table m Withdrawing x) (withdrawing set m (st.up s) x) (units_in s (st.arbiter x).line) ((st.arbiter x).granted s) (st.down s x)
       own x =

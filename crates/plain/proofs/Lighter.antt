@@ -13,7 +13,8 @@ use lib.ListN.{length, length-append}
 use borrow.Author.Tests.{eq-eqb, ne_eqb, eqb-true, lt-ltb, le-ltb, ltb-true}
 use Rattle.lists.specs.At.{at, at2}
 use Rattle.lists.proofs.Changed.{at_same, at_other, at_all, pair_all, at2-same, at2_other}
-use Rattle.lists.proofs.Tests.{known, and_left}
+use Rattle.lists.proofs.Tests.{and_left}
+use Rattle.std.proofs.lemmas.Bool.{cases_Bool}
 use Rattle.lists.proofs.Totals.{total-le, total_less}
 use Rattle.stations.specs.Member.{member}
 use Rattle.stations.specs.Sets.{lowest_from}
@@ -181,7 +182,7 @@ module _ (st : State) (s j : ℕ) (m : Message) (rest : List Message) (d : Deliv
   taken_as_light (Collecting q h i) e in_range_lem =
       ⊎_elim (λ (t : eqb i j ≡ true). rw t (grant_as_light q h (e ∙ ap (Collecting q h) (eqb-true i j t)) (and_left (ltb q (length st.table)) _ in_range_lem)))
       (λ (f : eqb i j ≡ false). rw f drops_as_light)
-      (known (eqb i j))
+      (cases_Bool (eqb i j))
   taken_as_light (Holding q h) e in_range_lem = drops_as_light
   taken_as_light Withdrawing e in_range_lem = drops_as_light
 

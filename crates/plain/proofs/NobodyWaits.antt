@@ -12,7 +12,8 @@ use lib.ListN.{length}
 use borrow.Author.Tests.{eq-eqb, lt-ltb, ltb-true}
 use Rattle.lists.specs.Search.{all}
 use Rattle.lists.proofs.Searches.{some-never, some-found}
-use Rattle.lists.proofs.Tests.{known, clash, and_left, and_right, and_both, or-none, or_cases}
+use Rattle.lists.proofs.Tests.{clash, and_left, and_right, and_both}
+use Rattle.std.proofs.lemmas.Bool.{cases_Bool, or_parts, or_cases}
 use Rattle.lists.proofs.Totals.{total-none}
 use Rattle.quorum.specs.Limits.{broken_limit}
 use Rattle.quorum.proofs.Promises.{limits_kept}
@@ -120,7 +121,7 @@ some_delivery st e =
 comes_to_rest : (most : ℕ) (st : State) → Reached st → weight st ≤ most → (calls : List Call) × (only_deliveries st calls ≡ true) × (under_way (after st calls) ≡ false)
 unfolding only_deliveries after
 comes_to_rest zero st r l =
-    ⊎_elim (λ (t : under_way st ≡ true). let (c, e) = some_delivery st t in absurd (omega (arith, (is_delivered st r c e).1))) (λ (f : under_way st ≡ false). ([], refl, f)) (known (under_way st))
+    ⊎_elim (λ (t : under_way st ≡ true). let (c, e) = some_delivery st t in absurd (omega (arith, (is_delivered st r c e).1))) (λ (f : under_way st ≡ false). ([], refl, f)) (cases_Bool (under_way st))
 comes_to_rest (suc most) st r l =
     ⊎_elim
     (λ (t : under_way st ≡ true).
@@ -128,7 +129,7 @@ comes_to_rest (suc most) st r l =
     let (calls, only, end) = comes_to_rest most (call st c).state (call_reached st c r) (omega (arith, (is_delivered st r c e).1)) in
     (c ∷ calls, and_both e only, end))
     (λ (f : under_way st ≡ false). ([], refl, f))
-    (known (under_way st))
+    (cases_Bool (under_way st))
 
 -- ---- no message is under way
 
@@ -151,7 +152,7 @@ module _ (st : State) (r : Reached st) (silent : under_way st ≡ false) where
   lanes : (s j : ℕ) → s < st.n → j < st.n → (st.up s j ≡ []) × (st.down s j ≡ [])
   unfolding under_way
   lanes s j l b =
-      let (up, down) = or-none _ _ (some-never _ st.n (some-never _ st.n silent s l) j b) in
+      let (up, down) = or_parts _ _ (some-never _ st.n (some-never _ st.n silent s l) j b) in
       (no_message (st.up s j) up, no_message (st.down s j) down)
 
   pair : (s j : ℕ) → s < st.n → j < st.n

@@ -8,7 +8,8 @@ use lib.Dec.{leb, ltb}
 use lib.ListN.{length, take}
 use borrow.Author.Tests.{leb-false, lt-leb, not-false}
 use Rattle.lists.proofs.Broken.{Kept, kept_both, passes_kept, number_at, BrokenAt}
-use Rattle.lists.proofs.Tests.{clash, or-none}
+use Rattle.lists.proofs.Tests.{clash}
+use Rattle.std.proofs.lemmas.Bool.{or_parts}
 use Rattle.units.specs.declared.Units.{Units}
 use Rattle.plain.specs.Answer.{Answer, Returned, nothing, left_only, refused, done, answered}
 use Rattle.plain.specs.Delivery.{delivery_tests, delivery_refusal}
@@ -77,7 +78,7 @@ first_message (m ∷ rest) e = (m, rest, refl)
 module _ (st : State) (s j : ℕ) (lane : List Message) (full : Message → Bool) where
   pub delivering : Kept (take 3 (delivery_tests st s j lane full)) → (m : Message) × (rest : List Message) × Delivers st s j lane m rest
   delivering (a, (b, (c, end))) =
-      let (x, y) = or-none (leb st.n s) (leb st.n j) b in
+      let (x, y) = or_parts (leb st.n s) (leb st.n j) b in
       let (m, rest, taken) = first_message lane c in
       (m, rest, record { range = not-false (in_range st) a; station = leb-false st.n s x; arbiter = leb-false st.n j y; taken = taken })
 

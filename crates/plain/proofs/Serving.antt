@@ -10,7 +10,7 @@ use lib.Dec.{eqb}
 use borrow.Author.Tests.{eq-eqb, ne_eqb}
 use Rattle.lists.specs.At.{at}
 use Rattle.lists.proofs.Changed.{at_same, at_other}
-use Rattle.lists.proofs.Tests.{known}
+use Rattle.std.proofs.lemmas.Bool.{cases_Bool}
 use Rattle.units.specs.Units.{fits}
 use Rattle.units.specs.declared.Units.{Units}
 use Rattle.units.proofs.Amounts.{Within, within-fits}
@@ -38,7 +38,7 @@ module _ (n : ℕ) (stock : Units) where
   serve_splits g (e ∷ line) =
       ⊎_elim (λ (t : fits n stock g e.units ≡ true). rw t (cc (serve_splits (at g e.station e.units) line)))
       (λ (f : fits n stock g e.units ≡ false). rw f)
-      (known (fits n stock g e.units))
+      (cases_Bool (fits n stock g e.units))
 
   -- service ends where the line is empty or its first entry does not fit
   pub serve_ends : (g : ℕ → Units) (line : List Entry)
@@ -47,7 +47,7 @@ module _ (n : ℕ) (stock : Units) where
   serve_ends g [] = refl
   serve_ends g (e ∷ line) =
       ⊎_elim (λ (t : fits n stock g e.units ≡ true). rw t (serve_ends (at g e.station e.units) line)) (λ (f : fits n stock g e.units ≡ false). rw f f)
-      (known (fits n stock g e.units))
+      (cases_Bool (fits n stock g e.units))
 
   -- a station has the units that it was granted last
   pub serve-grants : (g : ℕ → Units) (line : List Entry) (s : ℕ)
@@ -57,7 +57,7 @@ module _ (n : ℕ) (stock : Units) where
   serve-grants g (e ∷ line) s =
       ⊎_elim (λ (t : fits n stock g e.units ≡ true). rw t (serve-grants (at g e.station e.units) line s ∙ go (units_in s (serve n stock (at g e.station e.units) line).grants)))
       (λ (f : fits n stock g e.units ≡ false). rw f)
-      (known (fits n stock g e.units))
+      (cases_Bool (fits n stock g e.units))
     where
       go : (us : List Units) → last (at g e.station e.units s) us ≡ last (g s) (cond (eqb e.station s) (e.units ∷ us) us)
       go us =
@@ -72,4 +72,4 @@ module _ (n : ℕ) (stock : Units) where
   serve-stock g (e ∷ line) h =
       ⊎_elim (λ (t : fits n stock g e.units ≡ true). rw t (serve-stock (at g e.station e.units) line (within-fits n stock g e.station e.units t)))
       (λ (f : fits n stock g e.units ≡ false). rw f h)
-      (known (fits n stock g e.units))
+      (cases_Bool (fits n stock g e.units))

@@ -13,7 +13,8 @@ use Rattle.lists.specs.At.{at2}
 use Rattle.lists.specs.Search.{all, some_below}
 use Rattle.lists.proofs.Changed.{at_all, at2-all}
 use Rattle.lists.proofs.Searches.{every_true, some-never, all_append}
-use Rattle.lists.proofs.Tests.{known, and_left, and_right, and_both, or-none}
+use Rattle.lists.proofs.Tests.{and_left, and_right, and_both}
+use Rattle.std.proofs.lemmas.Bool.{cases_Bool, or_parts}
 use Rattle.stations.specs.Member.{member}
 use Rattle.stations.specs.Sets.{lowest_from}
 use Rattle.quorum.specs.Family.{quorum}
@@ -86,7 +87,7 @@ module _ (st : State) (s j : ℕ) (m : Message) (rest : List Message) (d : Deliv
 
   room : (passes line_places (arrived_at st s j m).line ≡ false)
       × (some_below (λ t. passes down_places (granted_at st s j m t j)) st.n ≡ false)
-  room = or-none _ _ passes-not
+  room = or_parts _ _ passes-not
 
   arbiter_in_lem : arbiter_in st.n st.stock (served_at st s j m).arbiter ≡ true
   arbiter_in_lem =
@@ -221,7 +222,7 @@ releasing_in st s set b l room j c =
     (keeps-more up_places (goes_up st.stock) (st.up s j) (Release ∷ []) (b.ups s l j c) refl
     (rw (t, releasing-member set (st.up s) j t) at (some-never (λ j. release_passes set (st.up s) j) st.n room j c))))
     (λ (f : member set j ≡ false). rw (releasing_other set (st.up s) j f) (b.ups s l j c))
-    (known (member set j))
+    (cases_Bool (member set j))
 
 release_ranged : (st : State) (s q : ℕ) (h : Units) → Releases st s q h → some_passes st s q ≡ false → Ranged (given_back st s q)
 unfolding given_back phase_in
@@ -255,7 +256,7 @@ withdraw_ranged st s q h m w passes-not =
     b = ranged st w.range
 
     room : (any_passes st s (below (quorum st.table q) m) ≡ false) × (passes up_places (sent (st.up s m) Withdraw) ≡ false)
-    room = or-none _ _ passes-not
+    room = or_parts _ _ passes-not
 
     last : up_lane st.stock (sent (st.up s m) Withdraw) ≡ true
     last = keeps-more up_places (goes_up st.stock) (st.up s m) (Withdraw ∷ []) (b.ups s w.station m (ltb-true m st.n (approached_below st s q h m w))) refl room.1

@@ -11,7 +11,7 @@ use native.Mathlib.Omega.{arith}
 use lib.Dec.{eqb, ltb}
 use borrow.Author.Tests.{eq-eqb, ne_eqb, eqb-true, lt-ltb, le-ltb}
 use Rattle.lists.proofs.Changed.{at_same}
-use Rattle.lists.proofs.Tests.{known, or-none}
+use Rattle.std.proofs.lemmas.Bool.{cases_Bool, or_parts}
 use Rattle.stations.specs.Sets.{places, count_below, lowest_from, members_above}
 use Rattle.stations.proofs.Above.{from_lowest, from_none, from_all}
 use Rattle.quorum.specs.Family.{quorum}
@@ -126,7 +126,7 @@ module _ (s : ℕ) where
     grant j (Holding q h) e = drops
     grant j Withdrawing e = drops
     grant j (Collecting q h i) e =
-        ⊎_elim (λ b. rw b (granted j q h (e ∙ ap (Collecting q h) (eqb-true i j b)))) (λ b. rw b drops) (known (eqb i j))
+        ⊎_elim (λ b. rw b (granted j q h (e ∙ ap (Collecting q h) (eqb-true i j b)))) (λ b. rw b drops) (cases_Bool (eqb i j))
 
     message : (j : ℕ) (m : Message) → Made (taken_at st s j m)
     unfolding Made
@@ -164,7 +164,7 @@ counts : (s : ℕ) (st : State) (calls : List Call) (more : List ℕ) → Due s 
 unfolding told asks_again after Told
 counts s st [] more due none = (more, refl, due)
 counts s st (c ∷ calls) more due none =
-    let (now, then) = or-none (asks s st c) (asks_again s (call st c).state calls) none in
+    let (now, then) = or_parts (asks s st c) (asks_again s (call st c).state calls) none in
     let (rest, is, due_then) = step s st more due c now in
     let (end, all, due-end) = counts s (call st c).state calls rest due_then then in
     (end, joined (asks s st c) (asks_on s st c) (call st c).above (told s (call st c).state calls) rest end more now all is, due-end)

@@ -13,7 +13,8 @@ use Rattle.lists.specs.At.{at, at2}
 use Rattle.lists.specs.Counting.{total}
 use Rattle.lists.proofs.Changed.{at_same, at_other, at_all, at2-same, at2_other, at2-all}
 use Rattle.lists.proofs.Searches.{some-found}
-use Rattle.lists.proofs.Tests.{clash, not-true-false}
+use Rattle.lists.proofs.Tests.{clash}
+use Rattle.std.proofs.lemmas.Bool.{false_from_ne_true}
 use Rattle.lists.proofs.Totals.{total-at-le}
 use Rattle.stations.specs.Member.{member}
 use Rattle.stations.specs.Sets.{places, lowest_from}
@@ -100,7 +101,7 @@ module _ (a : Amount) (st : State) (was : ℕ → Phase) (s p : ℕ) (h : Units)
 
   up_room : up_passes st s i (Request h) ≡ false
   unfolding arrived replying after_service
-  up_room = rw (service, v.lines i) (not-true-false _ (λ t. let (x, l, full) = some-found _ st.n t in clash full (short x)))
+  up_room = rw (service, v.lines i) (false_from_ne_true _ (λ t. let (x, l, full) = some-found _ st.n t in clash full (short x)))
 
   granted-done : (call st (Call.Up s i)).state ≡ granted
   unfolding call replying delivered_of granted_to after_service entry

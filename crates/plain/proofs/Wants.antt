@@ -9,7 +9,8 @@ use native.Mathlib.Decide.{ℕ_discrete, dec_lt}
 use native.Mathlib.Omega.{arith}
 use lib.Dec.{eqb, ltb}
 use borrow.Author.Tests.{eq-eqb, ne_eqb, eqb-true, lt-ltb, le-ltb}
-use Rattle.lists.proofs.Tests.{known, clash, either}
+use Rattle.lists.proofs.Tests.{clash, either}
+use Rattle.std.proofs.lemmas.Bool.{cases_Bool}
 use Rattle.stations.specs.Member.{member}
 use Rattle.quorum.specs.Family.{quorum}
 use Rattle.units.specs.Units.{no_units}
@@ -116,7 +117,7 @@ waited Part.leaves = no_units
 
 share_settled : (table : List ℕ) (q : ℕ) (h : Units) (j : ℕ) → (is_waiting (share table q h j) ≡ false) × (is_leaving (share table q h j) ≡ false)
 unfolding share is_waiting is_leaving
-share_settled table q h j = ⊎_elim (λ t. rw t (refl, refl)) (λ f. rw f (refl, refl)) (known (member (quorum table q) j))
+share_settled table q h j = ⊎_elim (λ t. rw t (refl, refl)) (λ f. rw f (refl, refl)) (cases_Bool (member (quorum table q) j))
 
 pub waits_for : (table : List ℕ) (a : ℕ) (p : Phase) (j : ℕ) (h : Units) → wants table a p j ≡ Part.waits h → (q : ℕ) × (p ≡ Collecting q h j)
 unfolding wants is_waiting waited

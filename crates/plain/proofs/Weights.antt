@@ -12,7 +12,8 @@ use lib.Dec.{ltb}
 use borrow.Author.Tests.{ltb-true, le-ltb}
 use Rattle.lists.specs.At.{at}
 use Rattle.lists.specs.Counting.{total}
-use Rattle.lists.proofs.Tests.{known, either, clash}
+use Rattle.lists.proofs.Tests.{either, clash}
+use Rattle.std.proofs.lemmas.Bool.{cases_Bool}
 use Rattle.lists.proofs.Totals.{total-le, total_most, total-at}
 use Rattle.stations.specs.Member.{member}
 use Rattle.quorum.specs.Family.{quorum}
@@ -96,4 +97,4 @@ module _ (st : State) (i : Invariant st) where
   weight_most most stays leaves =
       total_most (station_weight st) st.n most
       (λ s l. ⊎_elim (λ (t : is_withdrawing (st.phase s) ≡ true). omega (arith, leaves_most s t)) (λ (f : is_withdrawing (st.phase s) ≡ false). omega (arith, stays_most s f))
-      (known (is_withdrawing (st.phase s))))
+      (cases_Bool (is_withdrawing (st.phase s))))

@@ -10,7 +10,8 @@ use native.Mathlib.Omega.{arith}
 use lib.Dec.{eqb, ltb}
 use borrow.Author.Tests.{ne_eqb}
 use Rattle.lists.proofs.Changed.{at_same}
-use Rattle.lists.proofs.Tests.{known, clash, or-none, either}
+use Rattle.lists.proofs.Tests.{clash, either}
+use Rattle.std.proofs.lemmas.Bool.{cases_Bool, or_parts}
 use Rattle.stations.specs.Sets.{places, lowest_from}
 use Rattle.quorum.specs.Family.{quorum}
 use Rattle.units.specs.Units.{no_units, Amount, amount}
@@ -137,7 +138,7 @@ module _ (a : Amount) (s : ℕ) where
   unfolding entered_at asks_again after
   resting st [] none e = (refl, none)
   resting st (c ∷ calls) none e =
-      let (now, then) = or-none (asks s st c) (asks_again s (call st c).state calls) e in
+      let (now, then) = or_parts (asks s st c) (asks_again s (call st c).state calls) e in
       let (later, end) = resting (call st c).state calls (stays s st none c now) then in
       let none_now : enters_at a s st c ≡ 0 = ⊎_elim (λ z. z) (λ (t, f). absurd (clash t none)) (call_enters s a st c) in
       (omega arith, end)
@@ -147,13 +148,13 @@ module _ (a : Amount) (s : ℕ) where
   unfolding entered_at asks_again after
   collecting st [] e end = refl
   collecting st (c ∷ calls) e end =
-      let (now, then) = or-none (asks s st c) (asks_again s (call st c).state calls) e in
+      let (now, then) = or_parts (asks s st c) (asks_again s (call st c).state calls) e in
       ⊎_elim
       (λ (on : collects s (call st c).state ≡ true).
       let none_now : enters_at a s st c ≡ 0 = ⊎_elim (λ z. z) (λ (t, f). absurd (clash on f)) (call_enters s a st c) in
       omega (arith, none_now, collecting (call st c).state calls then end))
       (λ (off : collects s (call st c).state ≡ false). absurd (clash end (resting (call st c).state calls off then).1))
-      (known (collects s (call st c).state))
+      (cases_Bool (collects s (call st c).state))
 
   -- Withdraw(s) is not refused: s collects, and does not collect then
   withdraw_stops : (st : State) → (call st (Call.Withdraw s)).refusal ≡ 0 → (collects s st ≡ true) × (collects s (call st (Call.Withdraw s)).state ≡ false)
@@ -184,7 +185,7 @@ module _ (a : Amount) (s : ℕ) where
   unfolding asks_again after
   asks_append st [] y e = (refl, e)
   asks_append st (c ∷ x) y e =
-      let (now, then) = or-none (asks s st c) (asks_again s (call st c).state (x ++ y)) e in
+      let (now, then) = or_parts (asks s st c) (asks_again s (call st c).state (x ++ y)) e in
       let (first, second) = asks_append (call st c).state x y then in
       (rw (now, first), second)
 

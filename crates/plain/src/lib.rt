@@ -4,7 +4,7 @@
 use units::Units;
 
 // REQUEST, RELEASE and WITHDRAW go up from a station to an arbiter, GRANT and GONE come down.
-#[derive(Clone, Copy)]
+#[derive(Clone, Copy, Debug, PartialEq, Eq)]
 pub enum Message {
     Request(Units),
     Release,
@@ -15,7 +15,7 @@ pub enum Message {
 
 // What a station does: nothing, collect permission for so many units from the members of a quorum, hold them, or wait for GONE, having
 // withdrawn.
-#[derive(Clone, Copy)]
+#[derive(Clone, Copy, Debug, PartialEq, Eq)]
 pub enum Phase {
     Idle,
     Collecting {
@@ -32,7 +32,7 @@ pub enum Phase {
 
 // A place in an arbiter's line.
 #[repr(C)]
-#[derive(Clone, Copy)]
+#[derive(Clone, Copy, Debug, PartialEq, Eq)]
 pub struct Entry {
     pub station: u8,
     pub units: Units,

@@ -7,7 +7,7 @@ use mathlib.Core.Path.{◌≡◌, sym, ◌∙◌}
 use Prim.Native.Nat.{ℕ, ◌≤◌}
 use native.Mathlib.Decide.{ℕ_discrete, dec_le}
 use native.Mathlib.Omega.{arith}
-use Rattle.lists.proofs.Tests.{not-true-false}
+use Rattle.std.proofs.lemmas.Bool.{false_from_ne_true}
 use Rattle.quorum.specs.Accepted.{Accepted}
 use Rattle.quorum.specs.Arbiter.{Arbiter}
 use Rattle.quorum.specs.Limits.{broken_limit}
@@ -35,7 +35,7 @@ module _ (n k : ℕ) (table : List ℕ) where
   arbiter_accepted kept arbiter =
       record {
         limits = kept;
-        common = not-true-false (lacks_common n k table) (λ t.
+        common = false_from_ne_true (lacks_common n k table) (λ t.
             let w = (lacks_iff n k table kept).0 t in w.none (arbiter.intersection w.list w.numbers w.size));
         not-nested = minimal_nested table arbiter.minimality;
       }
@@ -58,11 +58,11 @@ module _ (n k : ℕ) (table : List ℕ) (room : ℕ) where
           (λ (short : ¬ (scratch_bytes ≤ room)). absurd (omega (arith, refusal_five n k table room kept (omega arith))))
 
       common : lacks_common n k table ≡ false
-      common = not-true-false (lacks_common n k table) (λ t. omega (arith, refusal_six n k table room kept enough t))
+      common = false_from_ne_true (lacks_common n k table) (λ t. omega (arith, refusal_six n k table room kept enough t))
 
       not-nested : nested table ≡ false
       not-nested =
-          not-true-false (nested table) (λ (t : nested table ≡ true).
+          false_from_ne_true (nested table) (λ (t : nested table ≡ true).
           let seven : refusal n k table room ≡ 7 = refusal_later n k table room kept enough common ∙ rw t in
           omega arith)
 

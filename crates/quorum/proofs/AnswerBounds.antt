@@ -10,7 +10,8 @@ use native.Mathlib.Omega.{arith}
 use lib.Dec.{ltb}
 use lib.ListN.{length}
 use borrow.Author.Tests.{ltb-true, ltb-false, ne_eqb}
-use Rattle.lists.proofs.Tests.{known, capped}
+use Rattle.lists.proofs.Tests.{capped}
+use Rattle.std.proofs.lemmas.Bool.{cases_Bool}
 use Rattle.quorum.specs.Answer.{Answer, answer_to, answer}
 use Rattle.quorum.specs.Even.{equal_shares, equal_sizes, even}
 use Rattle.quorum.specs.Family.{Family}
@@ -72,8 +73,8 @@ module _ (n k : ℕ) (table : List ℕ) (room : ℕ) where
       ⊎_elim
       (λ (lacks : lacks_common n k table ≡ true). rw (refusal_six n k table room kept enough lacks) (on_six n table k kept lacks))
       (λ (has : lacks_common n k table ≡ false). rw (refusal_later n k table room kept enough has) (later n table k kept (nested table)))
-      (known (lacks_common n k table)))
-      (known (ltb room scratch_bytes))
+      (cases_Bool (lacks_common n k table)))
+      (cases_Bool (ltb room scratch_bytes))
 
   pub answer_bounds : Bounds table (answer n k table room)
   unfolding answer

@@ -12,15 +12,18 @@ use lib.ListN.{length}
 use borrow.Author.Tests.{eqb-true, eq-eqb}
 use contract.Lifetimes.{Lfts}
 use denote.Ref.{Bor, MutBor}
+use Rattle.std.specs.Prelude.{Result}
 use Rattle.lists.proofs.Searches.{every_true, every_at, all_true, all-at}
-use Rattle.lists.proofs.Tests.{known, and_left, and_right, or_left, or_right, or_cases}
+use Rattle.lists.proofs.Tests.{and_left, and_right}
+use Rattle.std.proofs.lemmas.Bool.{cases_Bool, or_left, or_right, or_cases}
 use Rattle.stations.specs.Sets.{size}
 use Rattle.quorum.specs.Answer.{Answer, answer_to, answer, said}
 use Rattle.quorum.specs.Even.{belongs, equal_shares, equal_sizes, even}
 use Rattle.quorum.specs.Family.{quorum}
 use Rattle.quorum.specs.Refusal.{refusal}
 use Rattle.quorum.specs.Symmetric.{Symmetric, SomeSymmetric}
-use Rattle.quorum.specs.declared.Checked.{Checked}
+use Rattle.quorum.specs.declared.Accepted.{Accepted}
+use Rattle.quorum.specs.declared.Rejected.{Rejected}
 use Rattle.quorum.proofs.Evenness.{belongs-numbers}
 use Rattle.quorum.proofs.Refusals.{said-refusal}
 use Rattle.quorum.proofs.check.Reads as check
@@ -71,39 +74,39 @@ answer-even n table r =
     ⊎_elim (λ (e : eqb r 0 ≡ true). rw e)
     (λ (d : eqb r 0 ≡ false).
     ⊎_elim (λ (e : eqb r 6 ≡ true). rw (d, e))
-    (λ (d' : eqb r 6 ≡ false). ⊎_elim (λ (e : eqb r 7 ≡ true). rw (d, d', e)) (λ (d'' : eqb r 7 ≡ false). rw (d, d', d'')) (known (eqb r 7)))
-    (known (eqb r 6)))
-    (known (eqb r 0))
+    (λ (d' : eqb r 6 ≡ false). ⊎_elim (λ (e : eqb r 7 ≡ true). rw (d, d', e)) (λ (d'' : eqb r 7 ≡ false). rw (d, d', d'')) (cases_Bool (eqb r 7)))
+    (cases_Bool (eqb r 6)))
+    (cases_Bool (eqb r 0))
 
-said-even : (n k : ℕ) (table : List ℕ) (room : ℕ) (checked : Checked) → said checked ≡ answer n k table room
-    → checked.even ≡ cond (asked checked.refusal) (even n table) 0
-unfolding said answer
+said-even : (n k : ℕ) (table : List ℕ) (room : ℕ) (checked : Result Accepted Rejected) → said checked ≡ answer n k table room
+    → (said checked).even ≡ cond (asked (said checked).refusal) (even n table) 0
+unfolding answer
 said-even n k table room checked e =
     ap (λ (a : Answer). a.even) e ∙ answer-even n table (refusal n k table room)
     ∙ ap (λ (r : ℕ). cond (asked r) (even n table) 0) (sym (said-refusal n k table room checked e))
 
--- A call of `check`, with any numbers and slices, is known by what the checker has learnt of it: its contract, and nothing else. `left` is the
+-- A call of `check`, with any numbers and slices, is cases_Bool by what the checker has learnt of it: its contract, and nothing else. `left` is the
 -- scratch afterwards.
-pub check_even : (n k : ℕ) (quorums : Bor (List ℕ)) (scratch left : MutBor (List ℕ)) (checked : Checked) (κs : Lfts 2)
+pub check_even : (n k : ℕ) (quorums : Bor (List ℕ)) (scratch left : MutBor (List ℕ)) (checked : Result Accepted Rejected) (κs : Lfts 2)
     → check.Learnt κs (n, (k, (quorums, (scratch, tt)))) checked (n, (k, (quorums, (left, tt))))
-    → (checked.even ≡ 1) ↔ (((checked.refusal ≡ 0) ⊎ (checked.refusal ≡ 6)) × SomeSymmetric n quorums.now)
+    → ((said checked).even ≡ 1) ↔ ((((said checked).refusal ≡ 0) ⊎ ((said checked).refusal ≡ 6)) × SomeSymmetric n quorums.now)
 unfolding asked
-check_even n k quorums scratch left checked κs learnt = (to (known (asked r)), from)
+check_even n k quorums scratch left checked κs learnt = (to (cases_Bool (asked r)), from)
   where
     r : ℕ
-    r = checked.refusal
+    r = (said checked).refusal
 
-    is : checked.even ≡ cond (asked r) (even n quorums.now) 0
+    is : (said checked).even ≡ cond (asked r) (even n quorums.now) 0
     is = said-even n k quorums.now (length scratch.now) checked learnt.0
 
-    to : (asked r ≡ true) ⊎ (asked r ≡ false) → checked.even ≡ 1 → ((r ≡ 0) ⊎ (r ≡ 6)) × SomeSymmetric n quorums.now
+    to : (asked r ≡ true) ⊎ (asked r ≡ false) → (said checked).even ≡ 1 → ((r ≡ 0) ⊎ (r ≡ 6)) × SomeSymmetric n quorums.now
     to (inl t) e =
-        let here : checked.even ≡ even n quorums.now = rw t at is in
+        let here : (said checked).even ≡ even n quorums.now = rw t at is in
         (⊎_elim (λ z. inl (eqb-true r 0 z)) (λ s. inr (eqb-true r 6 s)) (or_cases (eqb r 0) (eqb r 6) t), (even_iff n quorums.now).0 (sym here ∙ e))
-    to (inr f) e = let none : checked.even ≡ 0 = rw f at is in absurd (omega arith)
+    to (inr f) e = let none : (said checked).even ≡ 0 = rw f at is in absurd (omega arith)
 
-    from : ((r ≡ 0) ⊎ (r ≡ 6)) × SomeSymmetric n quorums.now → checked.even ≡ 1
+    from : ((r ≡ 0) ⊎ (r ≡ 6)) × SomeSymmetric n quorums.now → (said checked).even ≡ 1
     from (which, symmetric) =
         let t : asked r ≡ true = ⊎_elim (λ z. or_left (eqb r 0) (eqb r 6) (eq-eqb r 0 z)) (λ s. or_right (eqb r 0) (eqb r 6) (eq-eqb r 6 s)) which in
-        let here : checked.even ≡ even n quorums.now = rw t at is in
+        let here : (said checked).even ≡ even n quorums.now = rw t at is in
         here ∙ (even_iff n quorums.now).1 symmetric

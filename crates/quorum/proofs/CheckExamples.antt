@@ -10,7 +10,7 @@ use Rattle.lists.specs.Counting.{how_many}
 use Rattle.stations.specs.Member.{member}
 use Rattle.stations.specs.Sets.{contains}
 use Rattle.quorum.specs.Answer.{Answer, refused, answer_to, answer}
-use Rattle.quorum.specs.Even.{belongs, equal_shares, equal_sizes, even}
+use Rattle.quorum.specs.Even.{equal_shares, equal_sizes, even}
 use Rattle.quorum.specs.Family.{common_within, families}
 use Rattle.quorum.specs.FirstFamily.{first_family}
 use Rattle.quorum.specs.Limits.{broken_limit}
@@ -22,7 +22,7 @@ use Rattle.quorum.specs.Width.{emptied, least_size, width, lacks_common}
 on_seven : ◌≡◌ {A = List Answer}
     (answer 3 1 (3 ∷ 5 ∷ 6 ∷ 7 ∷ []) 4096 ∷ answer 1 1 (1 ∷ 1 ∷ []) 4096 ∷ [])
     (record { refusal = 7; width = 3; even = 0; family = [] } ∷ record { refusal = 7; width = 0; even = 0; family = [] } ∷ [])
-unfolding answer answer_to refusal nested even belongs how_many width emptied least_size first_family lacks_common common_within families broken_limit member contains
+unfolding answer answer_to refusal nested even how_many width emptied least_size first_family lacks_common common_within families broken_limit member contains
 on_seven = refl
 
 -- each breaks the limit of its number and a later one: 1 and 2, 2 and 3, 3 and 4, 4 and 5, 5 and 6, 6 and 7
@@ -35,7 +35,7 @@ in_order : ◌≡◌ {A = List Answer}
     ∷ answer 2 1 (1 ∷ 2 ∷ 3 ∷ []) 4096
     ∷ [])
     (refused 1 ∷ refused 2 ∷ refused 3 ∷ refused 4 ∷ refused 5 ∷ record { refusal = 6; width = 2; even = 0; family = 0 ∷ 1 ∷ [] } ∷ [])
-unfolding answer answer_to refusal nested even belongs how_many width emptied least_size first_family lacks_common common_within families broken_limit member contains
+unfolding answer answer_to refusal nested even how_many width emptied least_size first_family lacks_common common_within families broken_limit member contains
 in_order = refl
 
 abbrev two_sizes : List ℕ
@@ -51,10 +51,10 @@ in_both_senses : ◌≡◌ {A = List Answer}
     ∷ record { refusal = 6; width = 3; even = 1; family = 0 ∷ 1 ∷ 2 ∷ [] }
     ∷ record { refusal = 0; width = 0; even = 0; family = [] }
     ∷ [])
-unfolding answer answer_to refusal nested even belongs how_many width emptied least_size first_family lacks_common common_within families broken_limit member contains
+unfolding answer answer_to refusal nested even how_many width emptied least_size first_family lacks_common common_within families broken_limit member contains
 in_both_senses = refl
 
 -- and of the first table each half: equal shares, two sizes
 one_sense : ◌≡◌ {A = List Bool} (equal_shares 6 two_sizes ∷ equal_sizes two_sizes ∷ []) (true ∷ false ∷ [])
-unfolding belongs how_many member
+unfolding how_many member
 one_sense = refl

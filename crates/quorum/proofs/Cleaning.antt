@@ -4,7 +4,9 @@ use mathlib.Core.List.{List, ◌++◌}
 use mathlib.Core.Path.{◌≡◌, sym, ap, ◌∙◌}
 use Prim.Native.Nat.{ℕ, ◌≤◌, ◌<◌}
 use native.Mathlib.Omega.{arith}
-use lib.ListN.{length, drop, replicate}
+use lib.ListN.{length, take, drop, replicate, length-append}
+use Rattle.std.proofs.lemmas.Slice.{drop-append-drop}
+use lib.Seq.{length-take-le}
 use borrow.Author.Tests.{lt-ltb, le-ltb}
 use Rattle.quorum.specs.Scratch.{zeroed}
 
@@ -16,7 +18,13 @@ pub zeroed_long : (bytes : ℕ) (s : List ℕ) → bytes ≤ length s → zeroed
 unfolding zeroed
 zeroed_long bytes s h = rw (le-ltb (length s) bytes h)
 
+-- the first bytes filled with zeros
+pub zeroed-front : (bytes : ℕ) (s : List ℕ) → bytes ≤ length s → replicate (length (take bytes s)) 0 ++ drop bytes s ≡ zeroed bytes s
+zeroed-front bytes s h = rw (length-take-le bytes s h) (sym (zeroed_long bytes s h))
+
 -- what was written in the first bytes is gone
-pub zeroed-same : (bytes : ℕ) (s t : List ℕ) → length t ≡ length s → bytes ≤ length s → drop bytes t ≡ drop bytes s → zeroed bytes t ≡ zeroed bytes s
-zeroed-same bytes s t size h e =
-    zeroed_long bytes t (omega arith) ∙ ap (λ (l : List ℕ). replicate bytes 0 ++ l) e ∙ sym (zeroed_long bytes s h)
+pub zeroed-same : (bytes : ℕ) (s front : List ℕ) → length front ≡ bytes → bytes ≤ length s → zeroed bytes (front ++ drop bytes s) ≡ zeroed bytes s
+zeroed-same bytes s front size h =
+    zeroed_long bytes (front ++ drop bytes s) (omega (arith, length-append front (drop bytes s)))
+    ∙ ap (λ (l : List ℕ). replicate bytes 0 ++ l) (drop-append-drop bytes s front bytes (omega arith) size)
+    ∙ sym (zeroed_long bytes s h)

@@ -11,7 +11,8 @@ use native.Mathlib.Omega.{arith}
 use lib.ListN.{length}
 use Rattle.lists.specs.Search.{any, first_of}
 use Rattle.lists.proofs.Searches.{any_append, any-map, first_append_some, first_append_none, first_map}
-use Rattle.lists.proofs.Tests.{clash, known, or_right, or_left, or-rest}
+use Rattle.lists.proofs.Tests.{clash, or-rest}
+use Rattle.std.proofs.lemmas.Bool.{cases_Bool, or_right, or_left}
 use Rattle.quorum.specs.Family.{Family, families}
 use Rattle.quorum.specs.Inner.Before.{Before}
 
@@ -110,4 +111,4 @@ module _ (b : ℕ) where
       (without_head P a m w (first_of P [] (families (suc a) m (suc w))) (omega arith)
       (sym (any-map P (λ g. a ∷ g) (families (suc a) m w)) ∙ nothing)
       (first_family_lem P (suc a) m (suc w) (omega arith) later)))
-      (known (any P (map (λ g. a ∷ g) (families (suc a) m w))))
+      (cases_Bool (any P (map (λ g. a ∷ g) (families (suc a) m w))))

@@ -14,7 +14,8 @@ use lib.Pow.{pow_pos}
 use borrow.Author.Tests.{leb-true, leb-false, eqb-false, not-false, le-leb, lt-leb, ne_eqb}
 use Rattle.lists.specs.Search.{any}
 use Rattle.lists.proofs.Broken.{Kept, passes_kept, broken_most}
-use Rattle.lists.proofs.Tests.{clash, and_left, and_right, and_both, or-none}
+use Rattle.lists.proofs.Tests.{clash, and_left, and_right, and_both}
+use Rattle.std.proofs.lemmas.Bool.{or_parts}
 use Rattle.stations.specs.Member.{member}
 use Rattle.stations.proofs.Members.{member_below, member_shift, some-member}
 use Rattle.quorum.specs.Family.{quorum}
@@ -48,10 +49,10 @@ up_to_lem most x e =
 in_place : (n : ℕ) (table : List ℕ) → any (out_of_place n) table ≡ false → (p : ℕ) → p < length table → (quorum table p ≡ 0 → ⊥) × (quorum table p < 2 ^ n)
 in_place n [] e p h = absurd (omega arith)
 in_place n (q ∷ table) e zero h =
-    let (this, rest) = or-none (out_of_place n q) (any (out_of_place n) table) e in
-    let (some, small) = or-none (eqb q 0) (leb (2 ^ n) q) this in
+    let (this, rest) = or_parts (out_of_place n q) (any (out_of_place n) table) e in
+    let (some, small) = or_parts (eqb q 0) (leb (2 ^ n) q) this in
     (eqb-false q 0 some, leb-false (2 ^ n) q small)
-in_place n (q ∷ table) e (suc p) h = in_place n table (or-none (out_of_place n q) (any (out_of_place n) table) e).1 p (omega arith)
+in_place n (q ∷ table) e (suc p) h = in_place n table (or_parts (out_of_place n q) (any (out_of_place n) table) e).1 p (omega arith)
 
 pub tests_kept : (n k : ℕ) (table : List ℕ) → broken_limit n k table ≡ 0 → Kept (limit_tests n k table)
 unfolding broken_limit

@@ -1,27 +1,42 @@
--- Of a program that is linked from crates: the table of this crate's functions, and that in a program that has the table, and what the functions name
--- of other crates, each function is there with all that it names. The checker makes both.
+-- Of a program that is linked from crates: the table of the functions of this crate that `limits::kept` and `limits::up_to` need, and that in a program
+-- that has the table, and what they name of other crates, both are there with all that they name. The checker makes the link of each function.
 -- Assumes nothing.
 use mathlib.Core.Bool.{true}
-use prog.Linked.{Tree, World, Holds, in_world}
+use mathlib.Core.Path.{refl}
+use prog.Linked.{Tree, World, Holds, in_world, in_table}
 use prog.LinkedThreads.{HasT}
-use Rattle.quorum.proofs.TheLink as link
-use Rattle.quorum.proofs.check.Symbol as check
-use Rattle.quorum.proofs.limits.broken_limit.Symbol as broken_limit
+use Rattle.stations.proofs.everyone.Symbol as everyone
+use Rattle.quorum.proofs.limits.has_bad_quorum.Symbol as has_bad_quorum-code
+use Rattle.quorum.proofs.limits.has_bad_quorum.TheLink as has_bad_quorum
+use Rattle.quorum.proofs.limits.is_out_of_place.Symbol as is_out_of_place-code
+use Rattle.quorum.proofs.limits.is_out_of_place.TheLink as is_out_of_place
+use Rattle.quorum.proofs.limits.kept.Symbol as kept
+use Rattle.quorum.proofs.limits.kept.TheLink as kept-link
 use Rattle.quorum.proofs.limits.up_to.Symbol as up_to
+use Rattle.quorum.proofs.limits.up_to.TheLink as up_to-link
 
+-- by the order of their symbols
 abbrev pub table : Tree
-table = link.table
+table =
+    Tree.fork Tree.leaf "quorum::limits::has_bad_quorum" has_bad_quorum.entry
+    (Tree.fork Tree.leaf "quorum::limits::is_out_of_place" is_out_of_place.entry
+    (Tree.fork Tree.leaf "quorum::limits::kept" kept-link.entry
+    (Tree.fork Tree.leaf "quorum::limits::up_to" up_to-link.entry Tree.leaf)))
 
--- what the functions name of other crates is there
+-- what they name of other crates is there
 abbrev pub Below : World → Type 0
-Below = link.Below
+Below W = HasT (in_world W) true everyone.code
 
-module _ (W : World) (here : Holds W "quorum" table) (below : Below W) where
-  pub check-linked : HasT (in_world W) true check.code
-  check-linked = link.linked-quorum::check W here below
-
-  pub broken_limit-linked : HasT (in_world W) true broken_limit.code
-  broken_limit-linked = link.linked-quorum::limits::broken_limit W here below
-
+module _ (W : World) (here : Holds W "quorum" table) where
   pub up_to-linked : HasT (in_world W) true up_to.code
-  up_to-linked = link.linked-quorum::limits::up_to W here below
+  up_to-linked = up_to-link.has (in_world W) true (in_table W "quorum" table here "quorum::limits::up_to" refl)
+
+  module _ (below : Below W) where
+    is_out_of_place-linked : HasT (in_world W) true is_out_of_place-code.code
+    is_out_of_place-linked = is_out_of_place.has (in_world W) true (in_table W "quorum" table here "quorum::limits::is_out_of_place" refl) below
+
+    has_bad_quorum-linked : HasT (in_world W) true has_bad_quorum-code.code
+    has_bad_quorum-linked = has_bad_quorum.has (in_world W) true (in_table W "quorum" table here "quorum::limits::has_bad_quorum" refl) is_out_of_place-linked
+
+    pub kept-linked : HasT (in_world W) true kept.code
+    kept-linked = kept-link.has (in_world W) true (in_table W "quorum" table here "quorum::limits::kept" refl) has_bad_quorum-linked up_to-linked

@@ -18,7 +18,7 @@ use borrow.Author.Tests.{eq-eqb, ne_eqb, eqb-true, lt-ltb, le-ltb, ltb-true, ltb
 use Rattle.lists.specs.Search.{any, first_of}
 use Rattle.lists.proofs.Below.{below_suc}
 use Rattle.lists.proofs.Searches.{any_append, any-map, first_append_some, first_append_none, first_map}
-use Rattle.lists.proofs.Tests.{known, not-true-false, or_left, or_right}
+use Rattle.std.proofs.lemmas.Bool.{cases_Bool, false_from_ne_true, or_left, or_right}
 use Rattle.stations.specs.Sets.{everyone}
 use Rattle.stations.proofs.Members.{and_swap, and_again}
 use Rattle.quorum.specs.Family.{quorum, common_within, empty_within, families, Numbers}
@@ -151,7 +151,7 @@ module _ (n : ℕ) (table : List ℕ) (few : n ≤ most_stations) (bytes : List 
     -- with p it would take more
     none_with_p : byte s ≤ byte (left s p) → any (empty_within table (left s p)) (families (suc p) m w) ≡ false
     none_with_p no-use =
-        not-true-false (any (empty_within table (left s p)) (families (suc p) m w)) (λ t.
+        false_from_ne_true (any (empty_within table (left s p)) (families (suc p) m w)) (λ t.
         let f = first_family_lem (length table) (empty_within table (left s p)) (suc p) m w (omega arith) t in
         let bound = lower (left s p) (left-fits s (quorum table p) h) (record {
           list = first_of (empty_within table (left s p)) [] (families (suc p) m w);
@@ -195,7 +195,7 @@ module _ (n : ℕ) (table : List ℕ) (few : n ≤ most_stations) (bytes : List 
       let no-use = ltb-false (byte (left s p)) (byte s) t in
       skips m w s p ends h size small no-use
       (lowered m (suc w) s (suc p) (omega arith) h size small (below_suc p useless no-use)))
-      (known (ltb (byte (left s p)) (byte s)))
+      (cases_Bool (ltb (byte (left s p)) (byte s)))
 
   -- "the family of that size whose ascending list of numbers comes first in dictionary order"
   pub lowering_first : 0 < n → (byte (everyone n) ≡ no_need → ⊥) → lowering bytes (everyone n) 0 table ≡ first_family n table

@@ -4,14 +4,13 @@ use mathlib.Core.Bool.{true, false}
 use mathlib.Core.List.{List, [], ◌∷◌}
 use mathlib.Core.Logic.{◌⊎◌, ⊎_elim}
 use mathlib.Core.Path.{◌≡◌, refl, ap}
-use Prim.Native.Nat.{ℕ, zero, suc, ◌+◌, ◌≤◌, ◌<◌}
-use native.Mathlib.Numerals.{add-one}
+use Prim.Native.Nat.{ℕ, zero, suc, ◌<◌}
 use native.Mathlib.Omega.{arith}
-use lib.ListN.{length, get_or, drop, drop_of_length-le}
-use lib.Seq.{drop-cons}
+use lib.ListN.{length, get_or}
 use Rattle.lists.specs.Search.{any}
 use Rattle.lists.proofs.Searches.{any_at, any_found}
-use Rattle.lists.proofs.Tests.{clash, or_left, or_right, or_cases, not-true-false}
+use Rattle.lists.proofs.Tests.{clash}
+use Rattle.std.proofs.lemmas.Bool.{or_left, or_right, or_cases, false_from_ne_true}
 use Rattle.stations.specs.Sets.{contains}
 use Rattle.stations.proofs.Members.{contains-members, members-contains}
 use Rattle.quorum.specs.Arbiter.{LiesWithin}
@@ -29,9 +28,6 @@ comparable_right q p t = or_right (contains q p) (contains p q) t
 
 pub comparable_cases : (q p : ℕ) → comparable q p ≡ true → (contains q p ≡ true) ⊎ (contains p q ≡ true)
 comparable_cases q p t = or_cases (contains q p) (contains p q) t
-
-pub comparable_neither : (q p : ℕ) → contains q p ≡ false → contains p q ≡ false → comparable q p ≡ false
-comparable_neither q p a b = rw (a, b)
 
 -- ---- a table
 
@@ -89,22 +85,7 @@ minimal table e p q a b d within =
 
 pub minimal_nested : (table : List ℕ) → ((p q : ℕ) → p < length table → q < length table → (p ≡ q → ⊥) → LiesWithin table p q → ⊥) → nested table ≡ false
 minimal_nested table h =
-    not-true-false (nested table) (λ t.
+    false_from_ne_true (nested table) (λ t.
     let x = nested-some table t in
     h x.inner x.outer x.inner_below x.outer_below x.apart
     (contains-members (quorum table x.outer) (quorum table x.inner) x.holds))
-
--- ---- from a place on: it nests with a later one, it does not, and at the end
-
-module _ (table : List ℕ) (p : ℕ) where
-  pub nested-here : p < length table → any (comparable (quorum table p)) (drop (p + 1) table) ≡ true → nested (drop p table) ≡ true
-  unfolding nested
-  nested-here h t = rw (drop-cons table p 0 h) (or_left _ (nested (drop (suc p) table)) (rw (add-one p) at t))
-
-  pub nested_later : p < length table → any (comparable (quorum table p)) (drop (p + 1) table) ≡ false → nested (drop p table) ≡ nested (drop (p + 1) table)
-  unfolding nested
-  nested_later h e = rw (add-one p, drop-cons table p 0 h, rw (add-one p) at e)
-
-  pub nested_end : length table ≤ p → nested (drop p table) ≡ false
-  unfolding nested
-  nested_end h = rw (drop_of_length-le table h)

@@ -6,17 +6,19 @@ use mathlib.Core.Logic.{⊎_elim}
 use mathlib.Core.Path.{◌≡◌, sym, ap, ◌∙◌}
 use Prim.Native.Nat.{ℕ, ◌≤◌, ◌<◌}
 use lib.Dec.{eqb}
+use Rattle.std.specs.Prelude.{Result}
 use borrow.Author.Tests.{eqb-true, lt-ltb, le-ltb}
 use Rattle.lists.specs.Broken.{first_broken}
 use Rattle.lists.proofs.Broken.{broken-at, first_earlier, first_later}
-use Rattle.lists.proofs.Tests.{known}
+use Rattle.std.proofs.lemmas.Bool.{cases_Bool}
 use Rattle.quorum.specs.Answer.{Answer, answer_to, answer, said}
 use Rattle.quorum.specs.Limits.{limit_tests, broken_limit}
 use Rattle.quorum.specs.Nested.{nested}
 use Rattle.quorum.specs.Refusal.{later_tests, refusal}
 use Rattle.quorum.specs.Scratch.{scratch_bytes}
 use Rattle.quorum.specs.Width.{lacks_common}
-use Rattle.quorum.specs.declared.Checked.{Checked}
+use Rattle.quorum.specs.declared.Accepted.{Accepted}
+use Rattle.quorum.specs.declared.Rejected.{Rejected}
 use Rattle.quorum.proofs.LimitLaws.{tests_kept}
 
 module _ (n k : ℕ) (table : List ℕ) (room : ℕ) where
@@ -50,11 +52,11 @@ answer-refusal n table r =
     (λ (d : eqb r 0 ≡ false).
     ⊎_elim (λ (e : eqb r 6 ≡ true). rw (d, e) (sym (eqb-true r 6 e)))
     (λ (d' : eqb r 6 ≡ false).
-    ⊎_elim (λ (e : eqb r 7 ≡ true). rw (d, d', e) (sym (eqb-true r 7 e))) (λ (d'' : eqb r 7 ≡ false). rw (d, d', d'')) (known (eqb r 7)))
-    (known (eqb r 6)))
-    (known (eqb r 0))
+    ⊎_elim (λ (e : eqb r 7 ≡ true). rw (d, d', e) (sym (eqb-true r 7 e))) (λ (d'' : eqb r 7 ≡ false). rw (d, d', d'')) (cases_Bool (eqb r 7)))
+    (cases_Bool (eqb r 6)))
+    (cases_Bool (eqb r 0))
 
 -- and so does the code's, where it says that answer
-pub said-refusal : (n k : ℕ) (table : List ℕ) (room : ℕ) (checked : Checked) → said checked ≡ answer n k table room → checked.refusal ≡ refusal n k table room
-unfolding said answer
+pub said-refusal : (n k : ℕ) (table : List ℕ) (room : ℕ) (checked : Result Accepted Rejected) → said checked ≡ answer n k table room → (said checked).refusal ≡ refusal n k table room
+unfolding answer
 said-refusal n k table room checked e = ap (λ (a : Answer). a.refusal) e ∙ answer-refusal n table (refusal n k table room)

@@ -1,11 +1,14 @@
 -- What the check answers.
-use Rattle.std.specs.Prelude.{cond, List, [], ℕ, eqb}
+use Rattle.std.specs.Prelude.{cond, List, [], ℕ, eqb, Result, Ok, Err}
 use Rattle.lists.specs.Cut.{cut}
+use Rattle.refusals.specs.Numbers.{number_of}
 use Rattle.quorum.specs.Even.{even}
 use Rattle.quorum.specs.FirstFamily.{first_family}
 use Rattle.quorum.specs.Refusal.{refusal}
 use Rattle.quorum.specs.Width.{width}
-use Rattle.quorum.specs.declared.Checked.{Checked}
+use Rattle.quorum.specs.declared.Accepted.{Accepted}
+use Rattle.quorum.specs.declared.Rejected.{Rejected}
+use Rattle.quorum.specs.declared.Rejected.TheVariants.{Refused, NoCommonMember, Nested}
 
 -- "The check answers refusal, width, even and a family"
 pub record Answer : Type 0 where
@@ -30,6 +33,15 @@ answer_to n table r =
 unfoldable pub answer : ℕ → ℕ → List ℕ → ℕ → Answer
 answer n k table room = answer_to n table (refusal n k table room)
 
--- what the code's answer says: the family is the first `size` places of its array
-unfoldable pub said : Checked → Answer
-said c = record { refusal = c.refusal; width = c.width; even = c.even; family = cut 0 c.size c.family }
+-- the number of the refusal that a table is rejected by
+abbrev pub rejection_of : Rejected → ℕ
+rejection_of (Refused refusal) = number_of refusal
+rejection_of (NoCommonMember width even family) = 6
+rejection_of (Nested width) = 7
+
+-- what the code's answer says: the family is the first `width` places of its array
+abbrev pub said : Result Accepted Rejected → Answer
+said (Ok accepted) = record { refusal = 0; width = accepted.width; even = cond accepted.even 1 0; family = [] }
+said (Err (Refused refusal)) = refused (number_of refusal)
+said (Err (NoCommonMember width even family)) = record { refusal = 6; width = width; even = cond even 1 0; family = cut 0 width family }
+said (Err (Nested width)) = record { refusal = 7; width = width; even = 0; family = [] }

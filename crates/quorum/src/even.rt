@@ -1,60 +1,47 @@
 // Even tables.
 ghost use Rattle.std.specs.Prelude.{◌≡◌};
-ghost use Rattle.quorum.specs.Even.{belongs, equal_shares as equal_shares_rule, equal_sizes as equal_sizes_rule, even};
+ghost use Rattle.quorum.specs.Even.{belongs, equal_shares, equal_sizes, is_even};
 
-// The number of quorums that station i belongs to.
-fn quorums_of(quorums: &[u16], i: usize) -> usize
-    ensures { result ≡ belongs quorums.now i }
-{
-    let mut count: usize = 0;
-    let mut p: usize = 0;
-    while p < quorums.len() {
-        if stations::has(quorums[p], i) {
-            count += 1;
+use crate::table::Table;
+
+impl Table<'_> {
+    // The number of quorums that station i belongs to.
+    fn quorums_of(&self, i: usize) -> usize
+        ensures { result ≡ belongs self.now.quorums.now i }
+    {
+        self.quorums
+            .iter()
+            .filter(|quorum| stations::has(**quorum, i))
+            .count()
+    }
+
+    // Whether all stations belong to equally many quorums.
+    fn has_equal_shares(&self) -> bool
+        ensures { result ≡ equal_shares self.now.stations self.now.quorums.now }
+    {
+        let first = self.quorums_of(0);
+        for i in 1..self.stations {
+            if self.quorums_of(i) != first {
+                return false; // another share
+            }
         }
-        p += 1;
+        true
     }
-    count
-}
 
-// Whether all n stations belong to equally many quorums.
-fn equal_shares(n: usize, quorums: &[u16]) -> bool
-    ensures { result ≡ equal_shares_rule n quorums.now }
-{
-    let first = quorums_of(quorums, 0);
-    let mut i: usize = 1;
-    while i < n {
-        if quorums_of(quorums, i) != first {
-            return false; // another share
-        }
-        i += 1;
+    // Whether all quorums have equal size.
+    fn has_equal_sizes(&self) -> bool
+        ensures { result ≡ equal_sizes self.now.quorums.now }
+    {
+        let first = stations::count(self.quorums[0]);
+        self.quorums
+            .iter()
+            .all(|quorum| stations::count(*quorum) == first)
     }
-    true
-}
 
-// Whether all quorums have equal size.
-fn equal_sizes(quorums: &[u16]) -> bool
-    ensures { result ≡ equal_sizes_rule quorums.now }
-{
-    let mut p: usize = 1;
-    while p < quorums.len() {
-        if stations::count(quorums[p]) != stations::count(quorums[0]) {
-            return false; // another size
-        }
-        p += 1;
+    // Whether a table is even in both senses. Sizes come first: they take one look at each quorum, and shares one for each station.
+    pub(crate) fn is_even(&self) -> bool
+        ensures { result ≡ is_even self.now.stations self.now.quorums.now }
+    {
+        self.has_equal_sizes() && self.has_equal_shares()
     }
-    true
-}
-
-// 1 when a table is even in both senses, else 0. Sizes come first: they take one look at each quorum, and shares one for each station.
-pub(crate) fn evenness(n: usize, quorums: &[u16]) -> u8
-    ensures { result ≡ even n quorums.now }
-{
-    if !equal_sizes(quorums) {
-        return 0;
-    }
-    if !equal_shares(n, quorums) {
-        return 0;
-    }
-    1
 }

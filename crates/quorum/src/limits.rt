@@ -1,26 +1,30 @@
 // The limits 1 to 4 of a table.
 ghost use Rattle.std.specs.Prelude.{◌≡◌, ◌≤◌};
 ghost use Rattle.lists.specs.Search.{any};
-ghost use Rattle.quorum.specs.Limits.{most_stations, up_to, out_of_place, broken_limit as broken_limit_rule};
+ghost use Rattle.refusals.specs.Numbers.{refusal_of};
+ghost use Rattle.quorum.specs.Limits.{most_stations, up_to, out_of_place, broken_limit};
 
 use crate::{MOST_QUORUMS, MOST_STATIONS, MOST_UNITS};
+use refusals::Refusal;
 
 // Whether a quorum is empty or names a station from n on.
-fn has_bad_quorum(n: usize, quorums: &[u16]) -> bool
+pub(crate) fn is_out_of_place(n: usize, quorum: u16) -> bool
+    requires { n ≤ most_stations }
+    ensures { result ≡ out_of_place n quorum }
+{
+    quorum == 0 || stations::everyone(n) < quorum
+}
+
+// Whether one of the quorums is.
+pub(crate) fn has_bad_quorum(n: usize, quorums: &[u16]) -> bool
     requires { n ≤ most_stations }
     ensures { result ≡ any (out_of_place n) quorums.now }
 {
-    let top = stations::everyone(n);
-    let mut p: usize = 0;
-    while p < quorums.len() {
-        let quorum = quorums[p];
-        if quorum == 0 {
+    // no `any`: the program that `program-has` of `claim` is of has no function of the library
+    for quorum in quorums {
+        if is_out_of_place(n, *quorum) {
             return true;
         }
-        if top < quorum {
-            return true;
-        }
-        p += 1;
     }
     false
 }
@@ -29,27 +33,25 @@ fn has_bad_quorum(n: usize, quorums: &[u16]) -> bool
 pub fn up_to(most: usize, x: usize) -> bool
     ensures { result ≡ up_to most x }
 {
-    if x < 1 {
-        return false;
-    }
-    x <= most
+    1 <= x && x <= most
 }
 
-// The first of the limits 1 to 4 that is broken, 0 if none is.
-pub fn broken_limit(n: usize, k: usize, quorums: &[u16]) -> u8
-    ensures { result ≡ broken_limit_rule n k quorums.now }
+// Whether a table keeps the limits 1 to 4; the first that it breaks refuses it.
+#[tactic(auto, unfolding(crate::specs::Limits::broken_limit))]
+pub fn kept(n: usize, k: usize, quorums: &[u16]) -> Result<(), Refusal>
+    ensures { refusal_of result ≡ broken_limit n k quorums.now }
 {
     if !up_to(MOST_STATIONS, n) {
-        return refusals::BAD_STATIONS;
+        return Err(Refusal::BadStations);
     }
     if !up_to(MOST_UNITS, k) {
-        return refusals::BAD_STOCK;
+        return Err(Refusal::BadStock);
     }
     if !up_to(MOST_QUORUMS, quorums.len()) {
-        return refusals::BAD_LENGTH;
+        return Err(Refusal::BadLength);
     }
     if has_bad_quorum(n, quorums) {
-        return refusals::BAD_QUORUM;
+        return Err(Refusal::BadQuorum);
     }
-    refusals::NO_REFUSAL
+    Ok(())
 }

@@ -1,38 +1,37 @@
 // Nested tables.
-ghost use Rattle.std.specs.Prelude.{◌≡◌, ◌+◌, ◌<◌, length, drop, get_or};
+ghost use Rattle.std.specs.Prelude.{◌≡◌};
 ghost use Rattle.lists.specs.Search.{any};
 ghost use Rattle.quorum.specs.Nested.{comparable, nested};
 
-// Whether the quorum p contains or equals a later one, or lies within it.
-fn comparable_later(quorums: &[u16], p: usize) -> bool
-    requires { p < length quorums.now }
-    ensures { result ≡ any (comparable (get_or quorums.now p 0)) (drop (p + 1) quorums.now) }
+use crate::table::Table;
+
+// Whether one of two quorums contains or equals the other.
+fn are_comparable(quorum: u16, other: u16) -> bool
+    ensures { result ≡ comparable quorum other }
 {
-    let quorum = quorums[p];
-    let mut q = p + 1;
-    while q < quorums.len() {
-        let other = quorums[q];
-        if stations::contains(quorum, other) {
-            return true;
-        }
-        if stations::contains(other, quorum) {
-            return true;
-        }
-        q += 1;
-    }
-    false
+    stations::contains(quorum, other) || stations::contains(other, quorum)
 }
 
-// Whether one entry contains or equals another entry.
-pub(crate) fn is_nested(quorums: &[u16]) -> bool
-    ensures { result ≡ nested quorums.now }
+// Whether a quorum contains or equals one of the others, or lies within it.
+fn is_comparable(quorum: u16, others: &[u16]) -> bool
+    ensures { result ≡ any (comparable quorum) others.now }
 {
-    let mut p: usize = 0;
-    while p < quorums.len() {
-        if comparable_later(quorums, p) {
-            return true;
+    others.iter().any(|other| are_comparable(quorum, *other))
+}
+
+impl Table<'_> {
+    // Whether one entry contains or equals another entry.
+    #[tactic(auto, unfolding(crate::specs::Nested::nested))]
+    pub(crate) fn is_nested(&self) -> bool
+        ensures { result ≡ nested self.now.quorums.now }
+    {
+        let mut rest = self.quorums;
+        while let Some((quorum, later)) = rest.split_first() {
+            if is_comparable(*quorum, later) {
+                return true;
+            }
+            rest = later;
         }
-        p += 1;
+        false
     }
-    false
 }

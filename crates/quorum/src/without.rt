@@ -1,21 +1,22 @@
 // The quorums that a station does not belong to.
-ghost use Rattle.std.specs.Prelude.{◌≡◌, ◌≤◌, length, take};
+ghost use Rattle.std.specs.Prelude.{◌≡◌};
 ghost use Rattle.quorum.specs.Inner.Need.{without as without_of};
 
-// Puts them at the front of a lent list and answers their number.
-pub(crate) fn without(i: usize, quorums: &[u16], found: &mut [u16]) -> usize
-    requires { length quorums.now ≤ length found.old }
-    ensures { (result ≤ length found.new) × (take result found.new ≡ without_of i quorums.now) }
-{
-    let mut len: usize = 0;
-    let mut p: usize = 0;
-    while p < quorums.len() {
-        let quorum = quorums[p];
-        if !stations::has(quorum, i) {
-            found[len] = quorum;
-            len += 1;
+use crate::MOST_QUORUMS;
+use crate::table::Table;
+
+impl Table<'_> {
+    // Puts them into a lent list, of fixed size since the check has no heap, and hands on the part that they fill.
+    pub(crate) fn without<'f>(&self, i: usize, found: &'f mut [u16; MOST_QUORUMS]) -> &'f [u16]
+        ensures { result.now ≡ without_of i self.now.quorums.now }
+    {
+        let mut len = 0;
+        for quorum in self.quorums {
+            if !stations::has(*quorum, i) {
+                found[len] = *quorum;
+                len += 1;
+            }
         }
-        p += 1;
+        &found[..len]
     }
-    len
 }

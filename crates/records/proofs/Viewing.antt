@@ -11,7 +11,7 @@ use Rattle.lists.specs.At.{at, at2}
 use Rattle.lists.specs.Cut.{cut}
 use Rattle.lists.proofs.Arrays.{shown_in, shown-set}
 use Rattle.lists.proofs.Cuts.{length_cut, cut_push, cut-within, get_or-cut}
-use Rattle.lists.proofs.Joined.{map-append}
+use Rattle.std.proofs.lemmas.List.{map-append}
 use Rattle.quorum.specs.Family.{quorum}
 use Rattle.plain.specs.Lanes.{up_places, sent}
 use Rattle.plain.specs.declared.Message.{Message}

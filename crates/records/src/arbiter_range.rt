@@ -1,72 +1,65 @@
 // Whether arbiters are in range: the units granted and the line.
-ghost use Rattle.std.specs.Prelude.{◌≡◌, ◌≤◌, get_or};
-ghost use Rattle.lists.specs.Cut.{cut};
-ghost use Rattle.lists.specs.Search.{every_below, all};
-ghost use Rattle.plain.specs.InRange.{entry_in as entry_in_rule, arbiter_in as arbiter_in_rule};
-ghost use Rattle.plain.specs.Lanes.{line_places};
-ghost use Rattle.quorum.specs.Limits.{most_stations};
-ghost use Rattle.units.specs.Units.{no_units, grant_in as grant_in_rule};
-ghost use Rattle.records.specs.View.{no_entry, arbiter_of, arbiters_of};
+ghost use Rattle.std.specs.Prelude.{◌≡◌};
+ghost use Rattle.lists.specs.Search.{all};
+ghost use Rattle.units.specs.Units.{grant_in as grant_in_rule};
+ghost use Rattle.records.specs.View.{arbiter_of};
 
-use crate::{Arbiter, LINE_PLACES, STATIONS};
+use crate::bounds::Bounds;
+use crate::{Arbiter, LINE_PLACES};
 use plain::Entry;
 use units::Units;
 
-fn grants_in(granted: [Units; STATIONS], n: usize, stock: Units) -> bool
-    requires { n ≤ most_stations }
-    ensures { result ≡ every_below (λ s. grant_in_rule stock (get_or granted s no_units)) n }
-{
-    let mut s: usize = 0;
-    while s < n && units::grant_in(stock, granted[s]) {
-        s += 1;
-    }
-    s == n
-}
+impl Bounds {
+    ghost use Rattle.plain.specs.InRange.{entry_in, arbiter_in};
 
-fn entry_in(e: Entry, n: usize, stock: Units) -> bool
-    ensures { result ≡ entry_in_rule n stock e }
-{
-    if n <= e.station as usize {
-        return false;
+    fn grants_in(self, granted: &[Units]) -> bool
+        ensures { result ≡ all (grant_in_rule self.stock) granted.now }
+    {
+        for units in granted {
+            if !units::grant_in(self.stock, *units) {
+                return false;
+            }
+        }
+        true
     }
-    let u = e.units;
-    units::request_in(stock, u)
-}
 
-fn line_in(line: [Entry; LINE_PLACES], len: usize, n: usize, stock: Units) -> bool
-    requires { len ≤ line_places }
-    ensures { result ≡ all (entry_in_rule n stock) (cut no_entry len line) }
-{
-    let mut i: usize = 0;
-    while i < len && entry_in(line[i], n, stock) {
-        i += 1;
+    #[tactic(auto, unfolding(plain::specs::InRange::entry_in))]
+    fn entry_in(self, e: &Entry) -> bool
+        ensures { result ≡ entry_in self.stations self.stock e.now }
+    {
+        (e.station as usize) < self.stations && units::request_in(self.stock, e.units)
     }
-    i == len
-}
 
-pub(crate) fn arbiter_in(a: Arbiter, n: usize, stock: Units) -> bool
-    requires { n ≤ most_stations }
-    ensures { result ≡ arbiter_in_rule n stock (arbiter_of n a) }
-{
-    let len = a.len as usize;
-    if LINE_PLACES < len {
-        return false;
+    fn line_in(self, line: &[Entry]) -> bool
+        ensures { result ≡ all (entry_in self.stations self.stock) line.now }
+    {
+        for e in line {
+            if !self.entry_in(e) {
+                return false;
+            }
+        }
+        true
     }
-    let granted = a.granted;
-    if !grants_in(granted, n, stock) {
-        return false;
-    }
-    let line = a.line;
-    line_in(line, len, n, stock)
-}
 
-pub(crate) fn arbiters_in(arbiters: [Arbiter; STATIONS], n: usize, stock: Units) -> bool
-    requires { n ≤ most_stations }
-    ensures { result ≡ every_below (λ j. arbiter_in_rule n stock (arbiters_of n arbiters j)) n }
-{
-    let mut j: usize = 0;
-    while j < n && arbiter_in(arbiters[j], n, stock) {
-        j += 1;
+    #[tactic(auto, using(crate::proofs::Ranging::arbiter_long, crate::proofs::Ranging::arbiter_kept, lists::proofs::Slices::front_cut, std::proofs::lemmas::Grind::common_steps))]
+    pub fn arbiter_in(self, a: &Arbiter) -> bool
+        ensures { result ≡ arbiter_in self.stations self.stock (arbiter_of self.stations a.now) }
+    {
+        let len = a.len as usize;
+        if LINE_PLACES < len {
+            return false;
+        }
+        self.grants_in(&a.granted[..self.stations]) && self.line_in(&a.line[..len])
     }
-    j == n
+
+    pub fn arbiters_in(self, arbiters: &[Arbiter]) -> bool
+        ensures { result ≡ all (λ a. arbiter_in self.stations self.stock (arbiter_of self.stations a)) arbiters.now }
+    {
+        for a in arbiters {
+            if !self.arbiter_in(a) {
+                return false;
+            }
+        }
+        true
+    }
 }

@@ -1,89 +1,92 @@
 // Whether lanes are in range: up and down alike.
-ghost use Rattle.std.specs.Prelude.{◌&&◌, true, false, ◌≡◌, ◌≤◌};
-ghost use Rattle.plain.specs.Lanes.{up_places};
-ghost use Rattle.quorum.specs.Limits.{most_stations};
-ghost use Rattle.records.specs.Inner.Ranges.{goes, lane_places, lane_in as lane_in_rule, row_in, lanes_in};
-ghost use Rattle.records.specs.View.{lane_of, row_of, lanes_of};
+ghost use Rattle.std.specs.Prelude.{◌≡◌};
+ghost use Rattle.lists.specs.Search.{all};
+ghost use Rattle.records.specs.View.{message_of, lane_of, row_of};
 
-use crate::{DOWN_PLACES, Lane, Lanes, Row, Slot, UP_PLACES};
+use crate::bounds::Bounds;
+use crate::{DOWN_PLACES, Lane, Row, Slot, UP_PLACES};
 use plain::Message;
 use units::Units;
 
-// Whether the message of a place may stand in a lane of this direction.
-fn message_goes(slot: Slot, stock: Units, upward: bool) -> bool
-    ensures { result ≡ goes upward stock slot.message }
-{
-    let m = slot.message;
-    match m {
-        Message::Request(h) => {
-            if upward {
-                return units::request_in(stock, h);
-            }
-            false
+// Where the messages of a lane go: up from a station, where a REQUEST is for units of this stock, or down to one.
+#[derive(Clone, Copy)]
+pub(crate) enum Direction {
+    Up(Units),
+    Down,
+}
+
+impl Direction {
+    ghost use Rattle.records.specs.Inner.Ranges.{goes, lane_places, lane_in, row_in};
+
+    // Whether a message may stand in a lane of this direction.
+    #[tactic(auto, unfolding(plain::specs::InRange::goes_up, plain::specs::InRange::goes_down))]
+    fn goes(self, m: Message) -> bool
+        ensures { result ≡ goes self m }
+    {
+        match (self, m) {
+            (Direction::Up(stock), Message::Request(h)) => units::request_in(stock, h),
+            (Direction::Up(_), Message::Release | Message::Withdraw) => true,
+            (Direction::Down, Message::Grant | Message::Gone) => true,
+            _ => false,
         }
-        Message::Release => upward,
-        Message::Grant => !upward,
-        Message::Withdraw => upward,
-        Message::Gone => !upward,
     }
-}
 
-// The limit of a lane of this direction.
-fn places(upward: bool) -> usize
-    ensures { (result ≡ lane_places upward) × (result ≤ up_places) }
-{
-    if upward {
-        return UP_PLACES;
+    // The limit of a lane of this direction.
+    fn places(self) -> usize
+        ensures { result ≡ lane_places self }
+    {
+        match self {
+            Direction::Up(_) => UP_PLACES,
+            Direction::Down => DOWN_PLACES,
+        }
     }
-    DOWN_PLACES
-}
 
-// Whether a lane keeps its limit and has only such messages.
-fn lane_in(l: Lane, stock: Units, upward: bool) -> bool
-    ensures { result ≡ lane_in_rule upward stock (lane_of l) }
-{
-    let len = l.len as usize;
-    if places(upward) < len {
-        return false;
+    fn slots_in(self, slots: &[Slot]) -> bool
+        ensures { result ≡ all (λ s. goes self (message_of s)) slots.now }
+    {
+        for slot in slots {
+            if !self.goes(slot.message) {
+                return false;
+            }
+        }
+        true
     }
-    let slots = l.slots;
-    let mut i: usize = 0;
-    while i < len && message_goes(slots[i], stock, upward) {
-        i += 1;
-    }
-    i == len
-}
 
-fn row_in(w: Row, n: usize, stock: Units, upward: bool) -> bool
-    requires { n ≤ most_stations }
-    ensures { result ≡ row_in upward n stock (row_of n w) }
-{
-    let lanes = w.lanes;
-    let mut j: usize = 0;
-    while j < n && lane_in(lanes[j], stock, upward) {
-        j += 1;
+    // Whether a lane keeps its limit and has only such messages.
+    #[tactic(auto, using(crate::proofs::Ranging::lane_long, crate::proofs::Ranging::lane_kept, std::proofs::lemmas::Grind::common_steps))]
+    fn lane_in(self, l: &Lane) -> bool
+        ensures { result ≡ lane_in self (lane_of l.now) }
+    {
+        let len = l.len as usize;
+        len <= self.places() && self.slots_in(&l.slots[..len])
     }
-    j == n
-}
 
-fn lanes_in(t: Lanes, n: usize, stock: Units, upward: bool) -> bool
-    requires { n ≤ most_stations }
-    ensures { result ≡ lanes_in upward n stock (lanes_of n t) }
-{
-    let rows = t.rows;
-    let mut s: usize = 0;
-    while s < n && row_in(rows[s], n, stock, upward) {
-        s += 1;
+    fn lanes_in(self, lanes: &[Lane]) -> bool
+        ensures { result ≡ all (λ l. lane_in self (lane_of l)) lanes.now }
+    {
+        for l in lanes {
+            if !self.lane_in(l) {
+                return false;
+            }
+        }
+        true
     }
-    s == n
-}
 
-pub(crate) fn both_in(up: Lanes, down: Lanes, n: usize, stock: Units) -> bool
-    requires { n ≤ most_stations }
-    ensures { result ≡ (lanes_in true n stock (lanes_of n up) && lanes_in false n stock (lanes_of n down)) }
-{
-    if !lanes_in(up, n, stock, true) {
-        return false;
+    #[tactic(auto, using(crate::proofs::Ranging::row_kept))]
+    fn row_in(self, b: Bounds, w: &Row) -> bool
+        ensures { result ≡ row_in self b.stations (row_of b.stations w.now) }
+    {
+        self.lanes_in(&w.lanes[..b.stations])
     }
-    lanes_in(down, n, stock, false)
+
+    pub fn rows_in(self, b: Bounds, rows: &[Row]) -> bool
+        ensures { result ≡ all (λ w. row_in self b.stations (row_of b.stations w)) rows.now }
+    {
+        for w in rows {
+            if !self.row_in(b, w) {
+                return false;
+            }
+        }
+        true
+    }
 }

@@ -2,15 +2,20 @@
 // an array beyond its length, and what belongs to stations from n on, are no part of it.
 #![tactic(auto)]
 
+// No `all`, `get` or `?` in this crate: the program that `program-has` of `claim` is of has no function of the library.
+
 ghost use Rattle.std.specs.Prelude.{◌&&◌, ◌≡◌, leb};
 ghost use Rattle.plain.specs.InRange.{in_range, arbiter_in as arbiter_in_rule};
 ghost use Rattle.quorum.specs.Limits.{most_stations};
 ghost use Rattle.records.specs.View.{arbiter_of, view};
 
+use bounds::Bounds;
+use lane_range::Direction;
 use plain::{Entry, Message, Phase};
 use units::Units;
 
 mod arbiter_range;
+mod bounds;
 mod lane_range;
 mod limits;
 mod station_range;
@@ -31,6 +36,7 @@ pub struct Slot {
 }
 
 // Messages under way from a station to an arbiter, or back, oldest first.
+// No Vec: there is no heap, and a record is a value of fixed size. So it is of the table and of a line.
 #[derive(Clone, Copy)]
 pub struct Lane {
     pub len: u8,
@@ -55,6 +61,7 @@ pub struct Station {
 }
 
 // The units granted to each station, and the line of those that wait, oldest first.
+// C has it with this layout, and fills it with anything: the length is no part of a type that keeps to the array.
 #[repr(C)]
 #[derive(Clone, Copy)]
 pub struct Arbiter {
@@ -63,6 +70,7 @@ pub struct Arbiter {
     pub line: [Entry; LINE_PLACES],
 }
 
+// What belongs to a station stands in arrays of its kind, as the definitions read it (`view`): no call needs all that is one station's.
 #[derive(Clone, Copy)]
 pub struct Record {
     pub n: u8,
@@ -76,33 +84,27 @@ pub struct Record {
 }
 
 // Whether an arbiter of at most twelve stations is in range.
-pub fn arbiter_in_range(a: Arbiter, n: usize, stock: Units) -> bool
-    ensures { result ≡ (leb n most_stations && arbiter_in_rule n stock (arbiter_of n a)) }
+pub fn arbiter_in_range(a: &Arbiter, n: usize, stock: Units) -> bool
+    ensures { result ≡ (leb n most_stations && arbiter_in_rule n stock (arbiter_of n a.now)) }
 {
-    if STATIONS < n {
-        return false;
-    }
-    arbiter_range::arbiter_in(a, n, stock)
+    n <= STATIONS && Bounds { stations: n, stock }.arbiter_in(a)
 }
 
 // Whether the record is in range.
-pub fn in_range(r: Record) -> bool
-    ensures { result ≡ in_range (view r) }
+#[tactic(auto, using(crate::proofs::Ranging::few_stations, crate::proofs::Ranging::record_kept, crate::proofs::Ranging::record_broken, std::proofs::lemmas::Grind::common_steps))]
+pub fn in_range(r: &Record) -> bool
+    ensures { result ≡ in_range (view r.now) }
 {
+    let Some(table) = limits::table_kept(r) else {
+        return false;
+    };
     let n = r.n as usize;
-    let stock = r.stock;
-    let quorums = r.quorums as usize;
-    let table = r.table;
-    if !limits::limits_kept(n, units::asked_with(stock), quorums, table) {
-        return false;
-    }
-    let stations = r.stations;
-    if !station_range::stations_in(stations, n, stock, quorums) {
-        return false;
-    }
-    let arbiters = r.arbiters;
-    if !arbiter_range::arbiters_in(arbiters, n, stock) {
-        return false;
-    }
-    lane_range::both_in(r.up, r.down, n, stock)
+    let b = Bounds {
+        stations: n,
+        stock: r.stock,
+    };
+    b.stations_in(&r.stations[..n], table)
+        && b.arbiters_in(&r.arbiters[..n])
+        && Direction::Up(r.stock).rows_in(b, &r.up.rows[..n])
+        && Direction::Down.rows_in(b, &r.down.rows[..n])
 }

@@ -1,58 +1,47 @@
 // Whether stations are in range: the numbers that they work with.
-ghost use Rattle.std.specs.Prelude.{◌≡◌, List, ℕ, ◌≤◌, ◌&&◌, ltb, length};
-ghost use Rattle.lists.specs.Search.{every_below};
-ghost use Rattle.plain.specs.InRange.{phase_in as phase_in_rule};
-ghost use Rattle.quorum.specs.Limits.{most_stations};
-ghost use Rattle.units.specs.Units.{request_in as request_in_rule};
-ghost use Rattle.records.specs.View.{phases_of};
+ghost use Rattle.std.specs.Prelude.{◌≡◌, ◌&&◌, ltb, length};
+ghost use Rattle.lists.specs.Search.{all};
+ghost use Rattle.units.specs.Units.{request_in};
+ghost use Rattle.records.specs.View.{phase_of};
 
-use crate::{STATIONS, Station};
+use crate::Station;
+use crate::bounds::Bounds;
 use plain::Phase;
 use units::Units;
 
-// Whether a quorum and units are of a table with so many quorums and of this stock.
-fn wish_in(quorum: u8, units: Units, stock: Units, quorums: usize) -> bool
-    ensures { result ≡ (ltb quorum quorums && request_in_rule stock units) }
-{
-    if quorums <= quorum as usize {
-        return false;
-    }
-    units::request_in(stock, units)
-}
+impl Bounds {
+    ghost use Rattle.plain.specs.InRange.{phase_in};
 
-fn phase_in(station: Station, n: usize, stock: Units, quorums: usize) -> bool
-    ensures { (table : List ℕ) → length table ≡ quorums → result ≡ phase_in_rule n stock table station.phase }
-{
-    let p = station.phase;
-    match p {
-        Phase::Idle => true,
-        Phase::Collecting {
-            quorum,
-            units,
-            member,
-        } => {
-            if n <= member as usize {
+    // Whether a quorum is of this table, and units of this stock.
+    fn wish_in(self, quorum: u8, units: Units, table: &[u16]) -> bool
+        ensures { result ≡ (ltb quorum (length table.now) && request_in self.stock units) }
+    {
+        (quorum as usize) < table.len() && units::request_in(self.stock, units)
+    }
+
+    #[tactic(auto, unfolding(plain::specs::InRange::phase_in))]
+    fn phase_in(self, phase: Phase, table: &[u16]) -> bool
+        ensures { result ≡ phase_in self.stations self.stock table.now phase }
+    {
+        match phase {
+            Phase::Idle | Phase::Withdrawing => true,
+            Phase::Collecting {
+                quorum,
+                units,
+                member,
+            } => (member as usize) < self.stations && self.wish_in(quorum, units, table),
+            Phase::Holding { quorum, units } => self.wish_in(quorum, units, table),
+        }
+    }
+
+    pub fn stations_in(self, stations: &[Station], table: &[u16]) -> bool
+        ensures { result ≡ all (λ s. phase_in self.stations self.stock table.now (phase_of s)) stations.now }
+    {
+        for station in stations {
+            if !self.phase_in(station.phase, table) {
                 return false;
             }
-            wish_in(quorum, units, stock, quorums)
         }
-        Phase::Holding { quorum, units } => wish_in(quorum, units, stock, quorums),
-        Phase::Withdrawing => true,
+        true
     }
-}
-
-pub(crate) fn stations_in(
-    stations: [Station; STATIONS],
-    n: usize,
-    stock: Units,
-    quorums: usize,
-) -> bool
-    requires { n ≤ most_stations }
-    ensures { (table : List ℕ) → length table ≡ quorums → result ≡ every_below (λ s. phase_in_rule n stock table (phases_of n stations s)) n }
-{
-    let mut s: usize = 0;
-    while s < n && phase_in(stations[s], n, stock, quorums) {
-        s += 1;
-    }
-    s == n
 }

@@ -2,7 +2,8 @@
 // follow find everything where it was.
 use plain::Message;
 use records::Record;
-use scripts::{by_hand, script};
+use scripts::by_hand::{self, Way};
+use scripts::script;
 use std::io;
 
 // Once there is a place for the REQUEST it is the last of four. RELEASE to the first member is not sent where that to the
@@ -11,10 +12,10 @@ fn up_lane(rt: &impl Print, p2: Record) -> io::Result<()> {
     let full = by_hand::lane(4, Message::Release);
     script::play(
         rt,
-        by_hand::with_up(p2, 0, 0, full),
+        by_hand::with_lane(p2, Way::Up, 0, 0, full),
         b"full lane, request: request(0,0,1) up(0,0) request(0,0,1) up(0,0) up(0,0) up(0,0) down(0,0) up(0,0) down(0,0)",
     )?;
-    let second = by_hand::with_up(p2, 0, 1, full);
+    let second = by_hand::with_lane(p2, Way::Up, 0, 1, full);
     let holding = by_hand::holding(0, 1);
     script::play(
         rt,
@@ -22,7 +23,7 @@ fn up_lane(rt: &impl Print, p2: Record) -> io::Result<()> {
         b"full lane, release: release(0) up(0,0) up(0,1) release(0) up(0,0)",
     )?;
     let collecting = by_hand::collecting(0, 1, 0);
-    let granted = by_hand::with_down(second, 0, 0, by_hand::lane(1, Message::Grant));
+    let granted = by_hand::with_lane(second, Way::Down, 0, 0, by_hand::lane(1, Message::Grant));
     script::play(
         rt,
         by_hand::with_phase(granted, 0, collecting),
@@ -34,8 +35,8 @@ fn up_lane(rt: &impl Print, p2: Record) -> io::Result<()> {
 // Twelve wait, and the first of them fits: a REQUEST has no place all the same. A RELEASE needs none.
 fn line(rt: &impl Print, p2: Record) -> io::Result<()> {
     let mut r = by_hand::with_arbiter(p2, 0, by_hand::waiting(12, 1, 1));
-    r = by_hand::with_up(r, 0, 0, by_hand::lane(1, by_hand::request(1)));
-    r = by_hand::with_up(r, 2, 0, by_hand::lane(1, Message::Release));
+    r = by_hand::with_lane(r, Way::Up, 0, 0, by_hand::lane(1, by_hand::request(1)));
+    r = by_hand::with_lane(r, Way::Up, 2, 0, by_hand::lane(1, Message::Release));
     script::play(
         rt,
         r,
@@ -46,10 +47,10 @@ fn line(rt: &impl Print, p2: Record) -> io::Result<()> {
 
 // A third GRANT for the same station.
 fn down_lane(rt: &impl Print, p2: Record) -> io::Result<()> {
-    let two = by_hand::with_down(p2, 1, 0, by_hand::lane(2, Message::Grant));
+    let two = by_hand::with_lane(p2, Way::Down, 1, 0, by_hand::lane(2, Message::Grant));
     script::play(
         rt,
-        by_hand::with_up(two, 1, 0, by_hand::lane(1, by_hand::request(1))),
+        by_hand::with_lane(two, Way::Up, 1, 0, by_hand::lane(1, by_hand::request(1))),
         b"full lane, grant: up(1,0) down(1,0) up(1,0) down(1,0) down(1,0) down(1,0)",
     )?;
     Ok(())
@@ -58,7 +59,7 @@ fn down_lane(rt: &impl Print, p2: Record) -> io::Result<()> {
 // Station 1 waits several times for one unit of three. Its own unit counts at each turn, and is replaced, so all fit, but
 // only two GRANTs have a place. One unit is granted after them, which leaves two for station 2.
 fn at_once(rt: &impl Print, shared: Record) -> io::Result<()> {
-    let r = by_hand::with_up(shared, 0, 0, by_hand::lane(1, Message::Release));
+    let r = by_hand::with_lane(shared, Way::Up, 0, 0, by_hand::lane(1, Message::Release));
     script::play(
         rt,
         by_hand::with_arbiter(r, 0, by_hand::waiting(3, 1, 1)),

@@ -1,12 +1,13 @@
 // What a station makes of a GRANT that it does not wait for, on records made by hand from P2.
 use plain::Message;
 use records::Record;
-use scripts::{by_hand, script};
+use scripts::by_hand::{self, Way};
+use scripts::script;
 use std::io;
 
 // To a station that is idle, and to one that holds.
 fn not_collecting(rt: &impl Print, p2: Record) -> io::Result<()> {
-    let r = by_hand::with_down(p2, 0, 0, by_hand::lane(1, Message::Grant));
+    let r = by_hand::with_lane(p2, Way::Down, 0, 0, by_hand::lane(1, Message::Grant));
     script::play(rt, r, b"grant to idle: down(0,0) down(0,0) request(0,0,1)")?;
     let holding = by_hand::holding(0, 1);
     script::play(
@@ -22,8 +23,8 @@ fn other_member(rt: &impl Print, p2: Record) -> io::Result<()> {
     let grant = by_hand::lane(1, Message::Grant);
     let collecting = by_hand::collecting(0, 1, 0);
     let mut r = by_hand::with_phase(p2, 0, collecting);
-    r = by_hand::with_down(r, 0, 0, grant);
-    r = by_hand::with_down(r, 0, 1, grant);
+    r = by_hand::with_lane(r, Way::Down, 0, 0, grant);
+    r = by_hand::with_lane(r, Way::Down, 0, 1, grant);
     script::play(
         rt,
         r,
@@ -38,7 +39,7 @@ fn no_member(rt: &impl Print, p2: Record) -> io::Result<()> {
     let r = by_hand::with_phase(p2, 0, collecting);
     script::play(
         rt,
-        by_hand::with_down(r, 0, 1, by_hand::lane(1, Message::Grant)),
+        by_hand::with_lane(r, Way::Down, 0, 1, by_hand::lane(1, Message::Grant)),
         b"grant of no member: down(0,1) up(0,0) up(0,2) down(0,2)",
     )?;
     Ok(())

@@ -2,11 +2,12 @@
 use calls::Answer;
 use plain::Message;
 use records::Record;
-use scripts::{by_hand, report, script};
+use scripts::by_hand::{self, Way};
+use scripts::script;
 use std::io;
 
 // No argument of a call can be larger.
-const LARGEST: usize = 18446744073709551615;
+const LARGEST: usize = usize::MAX;
 
 // Station 3 of three, though the last station may ask by a quorum that it does not belong to; quorum 1 of 1; units
 // above the stock, and none.
@@ -57,7 +58,7 @@ fn in_order(rt: &impl Print, p2: Record) -> io::Result<()> {
         p2,
         b"8 before 9, 9 before 10: request(3,3,2) request(0,3,2)",
     )?;
-    let full = by_hand::with_up(p2, 0, 0, by_hand::lane(4, Message::Release));
+    let full = by_hand::with_lane(p2, Way::Up, 0, 0, by_hand::lane(4, Message::Release));
     script::play(rt, full, b"12 before 14: release(0)")?;
     let collecting = by_hand::collecting(0, 1, 0);
     let running = by_hand::with_phase(full, 0, collecting);
@@ -69,19 +70,18 @@ fn in_order(rt: &impl Print, p2: Record) -> io::Result<()> {
     Ok(())
 }
 
-fn large(rt: &impl Print, call: &[u8], a: Answer) -> io::Result<()> {
-    report::text(rt, b"large number ")?;
-    report::text(rt, call)?;
+fn large(rt: &impl Print, call: &str, a: Answer) -> io::Result<()> {
+    print!(rt; "large number {call}")?;
     script::answered(rt, a)?;
     Ok(())
 }
 
 // Numbers that a byte cannot hold.
 fn large_numbers(rt: &impl Print, p2: Record) -> io::Result<()> {
-    large(rt, b"request(256,0,1)", calls::request(p2, 256, 0, 1))?;
-    large(rt, b"request(0,256,1)", calls::request(p2, 0, 256, 1))?;
-    large(rt, b"request(0,0,257)", calls::request(p2, 0, 0, 257))?;
-    large(rt, b"up(0,18446744073709551615)", calls::up(p2, 0, LARGEST))
+    large(rt, "request(256,0,1)", calls::request(p2, 256, 0, 1))?;
+    large(rt, "request(0,256,1)", calls::request(p2, 0, 256, 1))?;
+    large(rt, "request(0,0,257)", calls::request(p2, 0, 0, 257))?;
+    large(rt, "up(0,18446744073709551615)", calls::up(p2, 0, LARGEST))
 }
 
 pub(crate) fn run(rt: &impl Print, p2: Record) -> io::Result<()> {

@@ -1,6 +1,6 @@
 // Opening: some marked tables, and the examples of refusals 1 to 7.
 use records::Record;
-use scripts::opened::{open, open_short};
+use scripts::opened::{open, open_on};
 use std::io;
 
 // P2, and with a stock of 2 P3, then P2 on one byte of scratch too few. Hands on the record of P2.
@@ -8,7 +8,8 @@ pub(crate) fn marked(rt: &impl Print) -> io::Result<Record> {
     let quorums = [3, 5, 6];
     let p2 = open(rt, b"P2", 3, 1, &quorums)?;
     open(rt, b"P3", 3, 2, &quorums)?;
-    open_short(rt, b"refusal 5", 3, 1, &quorums)?;
+    let mut short = [0u8; quorum::SCRATCH_BYTES - 1];
+    open_on(rt, &mut short, b"refusal 5", 3, 1, &quorums)?;
     Ok(p2)
 }
 
@@ -17,7 +18,7 @@ pub(crate) fn one_to_four(rt: &impl Print) -> io::Result<Record> {
     let quorums = [1];
     let empty = open(rt, b"refusal 1", 13, 1, &quorums)?;
     open(rt, b"refusal 2", 1, 0, &quorums)?;
-    open(rt, b"refusal 3", 1, 1, &quorums[..0])?;
+    open(rt, b"refusal 3", 1, 1, &[])?;
     open(rt, b"refusal 4", 3, 1, &[8])?;
     Ok(empty)
 }

@@ -1,7 +1,8 @@
 // Refusal 19: the empty record, and records made by hand that are just out of range, beside those that are just within.
 use plain::Message;
 use records::Record;
-use scripts::{by_hand, changed, script};
+use scripts::by_hand::{self, Way};
+use scripts::{changed, script};
 use std::io;
 
 // What opening hands back on a refusal.
@@ -27,15 +28,15 @@ fn before_8(rt: &impl Print, p2: Record) -> io::Result<()> {
 }
 
 fn lanes(rt: &impl Print, p2: Record) -> io::Result<()> {
-    changed::up_lane(rt, p2, 4, Message::Release)?;
-    changed::up_lane(rt, p2, 5, Message::Release)?;
-    changed::up_lane(rt, p2, 1, Message::Grant)?;
-    changed::up_lane(rt, p2, 1, by_hand::request(0))?;
-    changed::up_lane(rt, p2, 1, by_hand::request(2))?;
-    changed::down_lane(rt, p2, 2, Message::Grant)?;
-    changed::down_lane(rt, p2, 3, Message::Grant)?;
-    changed::down_lane(rt, p2, 1, by_hand::request(1))?;
-    changed::down_lane(rt, p2, 1, Message::Release)
+    changed::lane(rt, p2, Way::Up, 4, Message::Release)?;
+    changed::lane(rt, p2, Way::Up, 5, Message::Release)?;
+    changed::lane(rt, p2, Way::Up, 1, Message::Grant)?;
+    changed::lane(rt, p2, Way::Up, 1, by_hand::request(0))?;
+    changed::lane(rt, p2, Way::Up, 1, by_hand::request(2))?;
+    changed::lane(rt, p2, Way::Down, 2, Message::Grant)?;
+    changed::lane(rt, p2, Way::Down, 3, Message::Grant)?;
+    changed::lane(rt, p2, Way::Down, 1, by_hand::request(1))?;
+    changed::lane(rt, p2, Way::Down, 1, Message::Release)
 }
 
 fn arbiters(rt: &impl Print, p2: Record) -> io::Result<()> {

@@ -1,7 +1,8 @@
 // How an arbiter serves its line, with document 01's misreadings, and what RELEASE does.
 use plain::Message;
 use records::{Record, Slot};
-use scripts::{by_hand, script};
+use scripts::by_hand::{self, Way};
+use scripts::script;
 use std::io;
 
 // Station 0 has two units of three. The one that station 2 asks for is free, but station 1, which asks for two, is first
@@ -47,7 +48,7 @@ fn own_grant(rt: &impl Print, shared: Record) -> io::Result<()> {
     let r = by_hand::with_arbiter(shared, 0, arbiter);
     script::play(
         rt,
-        by_hand::with_up(r, 1, 0, lane),
+        by_hand::with_lane(r, Way::Up, 1, 0, lane),
         b"own grant: up(1,0) down(1,0) up(1,0) down(1,0)",
     )?;
     Ok(())

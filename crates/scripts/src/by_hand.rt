@@ -1,15 +1,16 @@
 // Records made by hand, from what opening hands back.
-ghost use Rattle.std.specs.Prelude.{◌<◌};
+ghost use Rattle.std.specs.Prelude.{◌≡◌, ◌<◌};
+ghost use Rattle.scripts.specs.declared.by_hand.Way.TheVariants.{Up, Down};
 
 use plain::{Entry, Message, Phase};
-use records::{Arbiter, LINE_PLACES, Lane, Lanes, Record, STATIONS, Slot, Station, UP_PLACES};
+use records::{Arbiter, LINE_PLACES, Lane, Record, STATIONS, Slot, Station, UP_PLACES};
+use std::fmt;
 use units::Units;
 
 // A fresh record, made without a line of its own.
 pub fn fresh(n: usize, k: usize, quorums: &[u16]) -> Record {
     let mut scratch = [0u8; quorum::SCRATCH_BYTES];
-    let o = machine::open(n, k, quorums, &mut scratch);
-    o.record
+    machine::open(n, k, quorums, &mut scratch).record
 }
 
 // Of n stations 0 alone is asked.
@@ -50,40 +51,41 @@ pub fn lane(len: u8, message: Message) -> Lane {
     }
 }
 
-fn placed(lanes: Lanes, s: usize, j: usize, l: Lane) -> Lanes
-    requires { (s < 12) × (j < 12) }
-{
-    let mut row = lanes.rows[s];
-    row.lanes[j] = l;
-    let mut next = lanes;
-    next.rows[s] = row;
-    next
+// The lanes up, from stations to arbiters, or those down.
+#[derive(Clone, Copy)]
+pub enum Way {
+    Up,
+    Down,
 }
 
-pub fn with_up(r: Record, s: usize, j: usize, l: Lane) -> Record
-    requires { (s < 12) × (j < 12) }
-{
-    let lanes = r.up;
-    let mut next = r;
-    next.up = placed(lanes, s, j, l);
-    next
+impl fmt::Display for Way {
+    fn fmt<W: fmt::Write>(&self, f: &mut fmt::Formatter<W>) -> fmt::Result {
+        f.write_str(match self {
+            Way::Up => "up",
+            Way::Down => "down",
+        })
+    }
 }
 
-pub fn with_down(r: Record, s: usize, j: usize, l: Lane) -> Record
+// With another lane between station s and arbiter j.
+pub fn with_lane(r: Record, way: Way, s: usize, j: usize, lane: Lane) -> Record
     requires { (s < 12) × (j < 12) }
+    ensures kept { (result.n ≡ r.n) × (result.stock ≡ r.stock) × (result.quorums ≡ r.quorums) × (result.table ≡ r.table) × (result.stations ≡ r.stations) × (result.arbiters ≡ r.arbiters) }
+    ensures other_way { (way ≡ Up → result.down ≡ r.down) × (way ≡ Down → result.up ≡ r.up) }
 {
-    let lanes = r.down;
     let mut next = r;
-    next.down = placed(lanes, s, j, l);
+    match way {
+        Way::Up => next.up.rows[s].lanes[j] = lane,
+        Way::Down => next.down.rows[s].lanes[j] = lane,
+    }
     next
 }
 
 pub fn with_phase(r: Record, s: usize, phase: Phase) -> Record
     requires { s < 12 }
 {
-    let station = Station { phase };
     let mut next = r;
-    next.stations[s] = station;
+    next.stations[s] = Station { phase };
     next
 }
 

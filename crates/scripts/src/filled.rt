@@ -9,10 +9,8 @@ fn lanes(message: Message) -> Lanes {
     let bad_row = Row {
         lanes: [bad; STATIONS],
     };
-    let mut row = bad_row;
-    row.lanes[0] = by_hand::lane(0, message);
     let mut rows = [bad_row; STATIONS];
-    rows[0] = row;
+    rows[0].lanes[0] = by_hand::lane(0, message);
     Lanes { rows }
 }
 

@@ -6,5 +6,4 @@ pub mod changed;
 pub mod filled;
 pub mod listed;
 pub mod opened;
-pub mod report;
 pub mod script;

@@ -2,20 +2,24 @@
 -- Assumes nothing.
 use mathlib.Core.Bool.{Bool, true, false, cond, ◌&&◌}
 use mathlib.Core.Logic.{by_cases}
-use mathlib.Core.Path.{◌≡◌, refl, sym, ap, ap₂, ◌∙◌}
-use Prim.Native.Nat.{ℕ, zero, suc, ◌+◌, ◌-◌, ◌≤◌, ◌<◌, min}
+use mathlib.Core.Path.{◌≡◌, refl, sym, ap, ◌∙◌}
+use Prim.Native.Nat.{ℕ, zero, suc, ◌+◌, ◌-◌, ◌/◌, ◌^◌, ◌≤◌, ◌<◌}
 use native.Mathlib.Decide.{dec_le}
+use native.Mathlib.Nat.{div-le_self}
 use native.Mathlib.Numerals.{add-one}
 use native.Mathlib.Omega.{arith}
 use lib.Dec.{leb}
-use borrow.Author.Tests.{le-leb, lt-leb}
+use borrow.Author.Tests.{eq-eqb, le-leb, lt-leb}
+use Rattle.std.specs.Int.{bit_at, trailing_zeros, w16}
+use Rattle.std.proofs.lemmas.Nat.Bits.{bit_at-trailing_zeros}
 use Rattle.lists.proofs.Counting.{many_same, many_add, many_none, many_not}
 use Rattle.lists.specs.Counting.{how_many}
 use Rattle.stations.specs.Member.{member}
 use Rattle.stations.specs.Sets.{places, count_below, size, lowest_among, lowest_from, members_from, members_above, next_from}
 use Rattle.stations.specs.declared.NextMember.{NextMember}
 use Rattle.stations.proofs.Counts.{count_member, count_other}
-use Rattle.stations.proofs.Lowest.{lowest_end}
+use Rattle.stations.proofs.Lowest.{lowest_end, lowest-only, lowest-none}
+use Rattle.stations.proofs.Members.{member_shift, member_below, member-station, member-zero}
 
 -- members below a station, and those from it on
 pub count_split : (q i : ℕ) → i ≤ places → count_below q i + members_from q i ≡ size q
@@ -83,29 +87,69 @@ pub from_all : (q : ℕ) → members_from q 0 ≡ size q
 unfolding how_many
 from_all q = omega (arith, count_split q 0 (omega arith))
 
--- where none is found: there is nothing above 16
-pub none_above : (q i : ℕ) → places ≤ lowest_from q i → members_above q (lowest_from q i) ≡ 0
-none_above q i h = from_end q (suc (lowest_from q i)) (omega arith)
+-- where there are no places, nothing follows
+pub next_end : (q from : ℕ) → places ≤ from → ◌≡◌ {A = NextMember} (record { member = places; above = 0 }) (next_from q from)
+unfolding next_from
+next_end q from h = rw (lowest_end q from h, from_end q (suc places) (omega arith))
 
--- the next member from a station on, by the lowest member and the number of members from there
-module _ (q from i : ℕ) (least : min from places ≤ i) (most : i ≤ places) (end : i ≤ from) where
-  same-lowest : lowest_from q i ≡ lowest_from q from
-  same-lowest =
-      by_cases (dec_le from places)
-      (λ (h : from ≤ places). let same : i ≡ from = omega arith in ap (lowest_from q) same)
-      (λ (h : ¬ (from ≤ places)). lowest_end q i (omega arith) ∙ sym (lowest_end q from (omega arith)))
+-- the members from a station on, each by its distance from there
+module _ (q from rest : ℕ) (set : q < 2 ^ places) (within : from < places) (is : rest ≡ q / 2 ^ from) where
+  member-rest : (j : ℕ) → member rest j ≡ member q (from + j)
+  member-rest j = ap (λ (x : ℕ). member x j) is ∙ member_shift q from j
 
-  above_is : (found : ℕ) → found ≡ members_from q i → found - 1 ≡ members_above q (lowest_from q i)
-  above_is found is =
-      by_cases (dec_le places (lowest_from q i))
-      (λ (h : places ≤ lowest_from q i). omega (arith, from_none q i h, none_above q i h))
-      (λ (h : ¬ (places ≤ lowest_from q i)). omega (arith, from_lowest q i (omega arith)))
+  -- station j of q, by its distance
+  distance : (j : ℕ) → from ≤ j → member q j ≡ member rest (j - from)
+  distance j h = let parts : from + (j - from) ≡ j = omega arith in sym (member-rest (j - from) ∙ ap (member q) parts)
 
-  pub next_is : (member found above : ℕ) → member ≡ lowest_from q i → found ≡ members_from q i → above ≡ found - 1
-      → ◌≡◌ {A = NextMember} (record { member = member; above = above }) (next_from q from)
+  pub size-rest : size rest ≡ members_from q from
+  unfolding members_from
+  size-rest =
+      let more : ℕ = places - from in
+      let parts : from + more ≡ places = omega arith in
+      let turned : more + from ≡ places = omega arith in
+      let below = many_none (λ j. leb from j && member q j) from (λ j l. rw (lt-leb from j l)) in
+      let above = many_same (λ j. leb from (from + j) && member q (from + j)) (member rest) more (λ j l. rw (le-leb from (from + j) (omega arith)) (sym (member-rest j))) in
+      let these = ap (how_many (λ j. leb from j && member q j)) (sym parts) ∙ many_add (λ j. leb from j && member q j) from more in
+      let all = ap (how_many (member rest)) (sym turned) ∙ many_add (member rest) more from in
+      let beyond = many_none (λ j. member rest (more + j)) from (λ j l. member-rest (more + j) ∙ member_below places q (from + (more + j)) set (omega arith)) in
+      omega arith
+
+  pub next_none : rest ≡ 0 → ◌≡◌ {A = NextMember} (record { member = places; above = 0 }) (next_from q from)
   unfolding next_from
-  next_is member found above lowest many less =
-      ap₂ (λ (m a : ℕ). record { member = m; above = a }) (lowest ∙ same-lowest) (less ∙ above_is found many ∙ ap (members_above q) same-lowest)
+  next_none none =
+      let lowest = lowest-none q from (λ j h. distance j h ∙ rw none (member-zero (j - from))) in
+      rw (lowest, from_end q (suc places) (omega arith))
+
+  -- its lowest member and their number
+  module _ (some : 0 < rest) where
+    low : (trailing_zeros w16 rest < places) × (bit_at rest (trailing_zeros w16 rest) ≡ 1) × ((i : ℕ) → i < trailing_zeros w16 rest → bit_at rest i ≡ 0)
+    low = bit_at-trailing_zeros w16 rest some (rw is (omega (arith, div-le_self q (2 ^ from))))
+
+    abbrev at : ℕ
+    at = trailing_zeros w16 rest
+
+    there : member q (from + at) ≡ true
+    unfolding member
+    there = sym (member-rest at) ∙ eq-eqb (bit_at rest at) 1 low.1
+
+    not_below : (i : ℕ) → i < at → member rest i ≡ false
+    unfolding member
+    not_below i h = rw (low.2 i h)
+
+    pub next-place : from + at < places
+    next-place = member-station places q (from + at) set there
+
+    lowest : lowest_from q from ≡ from + at
+    lowest = lowest-only q from (from + at) (omega arith) next-place there (λ j h l. distance j h ∙ not_below (j - from) (omega arith))
+
+    pub some-size : 0 < size rest
+    some-size = omega (arith, size-rest, from_lowest q from (rw lowest next-place))
+
+    pub next_some : ◌≡◌ {A = NextMember} (record { member = from + at; above = size rest - 1 }) (next_from q from)
+    unfolding next_from
+    next_some =
+        let above : size rest - 1 ≡ members_above q (from + at) = omega (arith, size-rest, from_lowest q from (rw lowest next-place), ap (members_above q) lowest) in
+        rw (lowest, above)
 
 -- what the step to the next member answers
 module _ (q i : ℕ) (next : NextMember) (found : next ≡ next_from q i) where

@@ -66,6 +66,9 @@ pub only_below : (i : ℕ) → i < places → only i ≡ 2 ^ i
 unfolding only
 only_below i h = rw (lt-ltb i places h)
 
+pub only_some : (i : ℕ) → i < places → 1 ≤ only i
+only_some i h = omega (arith, only_below i h, pow_pos i)
+
 pub only_beyond : (i : ℕ) → places ≤ i → only i ≡ 0
 unfolding only
 only_beyond i h = rw (le-ltb i places h)

@@ -11,7 +11,7 @@ use native.Mathlib.Omega.{arith}
 use lib.Bits.{bit_and, and_le_l}
 use Rattle.lists.proofs.Below.{below_suc}
 use Rattle.lists.proofs.Counting.{many_not, many_pass, many_fail, many_none, many_some}
-use Rattle.lists.proofs.Tests.{known}
+use Rattle.std.proofs.lemmas.Bool.{cases_Bool}
 use Rattle.lists.specs.Counting.{how_many}
 use Rattle.stations.specs.Member.{member}
 use Rattle.stations.specs.Sets.{count_below, everyone}
@@ -77,7 +77,7 @@ count_everyone n = omega (arith, many_not (member (everyone n)) n, many_none (λ
 -- n members of n stations are all of them
 pub count_all : (n q : ℕ) → count_below q n ≡ n → (i : ℕ) → i < n → member q i ≡ true
 count_all n q all i h =
-    ⊎_elim (λ t. t) (λ e. absurd (omega (arith, many_not (member q) n, many_some (λ j. not (member q j)) n i h (rw e)))) (known (member q i))
+    ⊎_elim (λ t. t) (λ e. absurd (omega (arith, many_not (member q) n, many_some (λ j. not (member q j)) n i h (rw e)))) (cases_Bool (member q i))
 
 -- the empty set has none
 pub count_none : (n : ℕ) → count_below 0 n ≡ 0

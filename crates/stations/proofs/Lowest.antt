@@ -7,6 +7,7 @@ use Prim.Native.Nat.{ℕ, zero, suc, ◌+◌, ◌-◌, ◌≤◌, ◌<◌}
 use native.Mathlib.Decide.{ℕ_discrete, dec_le}
 use native.Mathlib.Numerals.{add-one}
 use native.Mathlib.Omega.{arith}
+use Rattle.lists.proofs.Tests.{clash}
 use Rattle.stations.specs.Member.{member}
 use Rattle.stations.specs.Sets.{places, lowest_among, lowest_from}
 
@@ -59,3 +60,20 @@ lowest-here q i h m = let more : places - i ≡ suc (places - suc i) = omega ari
 pub lowest_later : (q i : ℕ) → i < places → member q i ≡ false → lowest_from q i ≡ lowest_from q (i + 1)
 unfolding lowest_from lowest_among
 lowest_later q i h m = let more : places - i ≡ suc (places - suc i) = omega arith in rw (more, m, add-one i)
+
+-- ---- it is the only such station
+
+pub lowest-only : (q i r : ℕ) → i ≤ r → r < places → member q r ≡ true → ((j : ℕ) → i ≤ j → j < r → member q j ≡ false) → lowest_from q i ≡ r
+lowest-only q i r from below m none =
+    let l = lowest_from_lem q i in
+    let x : ℕ = lowest_from q i in
+    by_cases (dec_le r x)
+    (λ (h : r ≤ x).
+    by_cases (dec_le x r) (λ (g : x ≤ r). omega arith) (λ (g : ¬ (x ≤ r)). absurd (clash m (l.before r from (omega arith)))))
+    (λ (h : ¬ (r ≤ x)). let f = l.found (omega arith) in absurd (clash f.1 (none x f.0 (omega arith))))
+
+pub lowest-none : (q i : ℕ) → ((j : ℕ) → i ≤ j → member q j ≡ false) → lowest_from q i ≡ places
+lowest-none q i none =
+    let l = lowest_from_lem q i in
+    let x : ℕ = lowest_from q i in
+    by_cases (dec_le places x) (λ (h : places ≤ x). let most = l.at_most in omega arith) (λ (h : ¬ (places ≤ x)). let f = l.found (omega arith) in absurd (clash f.1 (none x f.0)))

@@ -12,7 +12,8 @@ use lib.Bits.{bit_and, and_shr, and_mod, and_mask}
 use lib.Dec.{eqb, ltb}
 use lib.Pow.{pow_mono, pow-lt, ones_lt, ones_split, high, low, shr-shr}
 use borrow.Author.Tests.{eq-eqb, ne_eqb, eqb-true, ltb-true, ltb-false}
-use Rattle.lists.proofs.Tests.{known, clash, and_left, and-within}
+use Rattle.lists.proofs.Tests.{clash, and_left, and-within}
+use Rattle.std.proofs.lemmas.Bool.{cases_Bool}
 use Rattle.stations.specs.Member.{member}
 use Rattle.stations.specs.Sets.{everyone, contains, places}
 
@@ -132,10 +133,14 @@ pub member_below : (n q i : ℕ) → q < 2 ^ n → n ≤ i → member q i ≡ fa
 unfolding member
 member_below n q i h g = rw (div-eq_of_lt (lt_of_lt_of_le h (pow_mono g)))
 
+-- no set has a member beyond its places
+pub member_beyond : (q i : ℕ) → q < 65536 → places ≤ i → member q i ≡ false
+member_beyond q i h g = member_below places q i h g
+
 -- a member of a set of stations below n is below n
 pub member-station : (n q i : ℕ) → q < 2 ^ n → member q i ≡ true → i < n
 member-station n q i h m =
-    ⊎_elim (λ t. ltb-true i n t) (λ f. absurd (clash m (member_below n q i h (ltb-false i n f)))) (known (ltb i n))
+    ⊎_elim (λ t. ltb-true i n t) (λ f. absurd (clash m (member_below n q i h (ltb-false i n f)))) (cases_Bool (ltb i n))
 
 -- everyone is everyone: of n stations, each below n
 pub member-everyone : (n i : ℕ) → i < n → member (everyone n) i ≡ true
@@ -148,8 +153,8 @@ member-everyone n i h =
 pub everyone-le : {n m : ℕ} → n ≤ m → everyone n ≤ everyone m
 everyone-le h = omega (arith, pow_mono h)
 
-pub everyone-places : (n : ℕ) → places ≤ n → everyone (min n places) ≡ 65535
-everyone-places n h = let most : min n places ≡ places = omega arith in rw most
+pub everyone_places : (n : ℕ) → places ≤ n → everyone (min n places) ≡ 65535
+everyone_places n h = let most : min n places ≡ places = omega arith in rw most
 
 pub everyone-min : (n : ℕ) → n ≤ places → everyone (min n places) ≡ everyone n
 everyone-min n h = let same : min n places ≡ n = omega arith in rw same

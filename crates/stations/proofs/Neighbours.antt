@@ -7,7 +7,8 @@ use native.Mathlib.Omega.{arith}
 use lib.Dec.{eqb}
 use borrow.Author.Tests.{eq-eqb, ne_eqb, not-true}
 use Rattle.lists.proofs.Counting.{many_found, many_but, many_not}
-use Rattle.lists.proofs.Tests.{and_right, or_left, or_right}
+use Rattle.lists.proofs.Tests.{and_right}
+use Rattle.std.proofs.lemmas.Bool.{or_left, or_right}
 use Rattle.stations.specs.Member.{member}
 use Rattle.stations.specs.Sets.{count_below, set_of}
 use Rattle.stations.proofs.Built.{set_below, member-set, count_set}

@@ -10,7 +10,7 @@ use lib.ListN.{length, get_or, length-append, length-map}
 use borrow.Author.Tests.{eqb-true, eq-eqb, ne_eqb}
 use Rattle.lists.specs.Counting.{how_many, numbers_below}
 use Rattle.lists.proofs.Counting.{numbers-length, numbers-add, numbers-same, numbers-none, numbers_hold, numbers_rise, numbers-all}
-use Rattle.lists.proofs.Tests.{eqb-suc}
+use Rattle.std.proofs.Math.Dec.{eqb-suc-suc}
 use Rattle.stations.specs.Sets.{count_below}
 use Rattle.stations.specs.Sizes.{sets_of, choose}
 use Rattle.stations.proofs.Built.{count_top, count_under}
@@ -30,7 +30,7 @@ halves n s more same =
 
 pub sets_split : (n s : ℕ) → sets_of (suc n) (suc s) ≡ sets_of n (suc s) ++ map (λ q. 2 ^ n + q) (sets_of n s)
 unfolding sets_of
-sets_split n s = halves n (suc s) (λ q. eqb (count_below q n) s) (λ q h. eqb-suc (count_below q n) s)
+sets_split n s = halves n (suc s) (λ q. eqb (count_below q n) s) (λ q h. eqb-suc-suc (count_below q n) s)
 
 -- of size 0 the empty set alone
 pub sets_zero : (n : ℕ) → sets_of n 0 ≡ 0 ∷ []

@@ -11,7 +11,8 @@ use lib.Dec.{eqb}
 use borrow.Author.Tests.{ne_eqb}
 use Rattle.lists.specs.Counting.{how_many}
 use Rattle.lists.proofs.Counting.{many_add, many_same, many_none, many_some}
-use Rattle.lists.proofs.Tests.{known, eqb-suc}
+use Rattle.std.proofs.lemmas.Bool.{cases_Bool}
+use Rattle.std.proofs.Math.Dec.{eqb-suc-suc}
 use Rattle.stations.specs.Member.{member}
 use Rattle.stations.specs.Sets.{count_below}
 use Rattle.stations.specs.Sizes.{choose}
@@ -27,7 +28,7 @@ with n s i q = eqb (count_below q n) s && member q i
 none_empty : (n i : ℕ) → i < n → how_many (with n 0 i) (2 ^ n) ≡ 0
 none_empty n i h =
     many_none (with n 0 i) (2 ^ n)
-    (λ q l. ⊎_elim (λ m. rw (ne_eqb (count_below q n) 0 (λ z. omega (arith, many_some (member q) n i h m)))) (λ m. rw m (and-false (eqb (count_below q n) 0))) (known (member q i)))
+    (λ q l. ⊎_elim (λ m. rw (ne_eqb (count_below q n) 0 (λ z. omega (arith, many_some (member q) n i h m)))) (λ m. rw m (and-false (eqb (count_below q n) 0))) (cases_Bool (member q i)))
 
 -- one station more: the sets without the last, then those with it
 halves : (n s i : ℕ) → how_many (with (suc n) (suc s) i) (2 ^ suc n) ≡ how_many (with n (suc s) i) (2 ^ n) + how_many (λ q. eqb (count_below q n) s && member (2 ^ n + q) i) (2 ^ n)
@@ -36,7 +37,7 @@ halves n s i =
     ap (how_many (with (suc n) (suc s) i)) double
     ∙ many_add (with (suc n) (suc s) i) (2 ^ n) (2 ^ n)
     ∙ ap₂ ◌+◌ (many_same _ (with n (suc s) i) (2 ^ n) (λ q h. ap (λ (c : ℕ). eqb c (suc s) && member q i) (count_under n q h)))
-    (many_same _ (λ q. eqb (count_below q n) s && member (2 ^ n + q) i) (2 ^ n) (λ q h. ap (λ (b : Bool). b && member (2 ^ n + q) i) (ap (λ (c : ℕ). eqb c (suc s)) (count_top n q h) ∙ eqb-suc (count_below q n) s)))
+    (many_same _ (λ q. eqb (count_below q n) s && member (2 ^ n + q) i) (2 ^ n) (λ q h. ap (λ (b : Bool). b && member (2 ^ n + q) i) (ap (λ (c : ℕ). eqb c (suc s)) (count_top n q h) ∙ eqb-suc-suc (count_below q n) s)))
 
 module _ (n s i : ℕ) where
   -- the last station is in no set of the first half, and in all of the second

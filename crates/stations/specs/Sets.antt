@@ -1,6 +1,6 @@
 -- Sets of stations: all of them, one within another, how many, the lowest from a station on, and those above it.
 -- The common part of two sets is `bit_and` of the library: `member-and` of the laws says so.
-use Rattle.std.specs.Prelude.{Bool, cond, ◌&&◌, ℕ, zero, suc, ◌+◌, ◌-◌, ◌^◌, eqb, leb, ltb}
+use Rattle.std.specs.Prelude.{Bool, cond, ◌&&◌, ℕ, zero, suc, ◌+◌, ◌-◌, ◌^◌, eqb, leb, ltb, Option, None, Some}
 use Rattle.std.specs.Int.Bits.{bit_and}
 use Rattle.lists.specs.Counting.{how_many}
 use Rattle.stations.specs.Member.{member}
@@ -55,3 +55,8 @@ members_above q m = members_from q (suc m)
 -- "The step that finds the next member shall also give how many members lie above the one found.": the next from station i on; none lies above 16
 unfoldable pub next_from : ℕ → ℕ → NextMember
 next_from q i = record { member = lowest_from q i; above = members_above q (lowest_from q i) }
+
+-- what an answer says: where there is none, 16, and none above it
+abbrev pub said : Option NextMember → NextMember
+said None = record { member = places; above = 0 }
+said (Some next) = next

@@ -1,16 +1,15 @@
 // Sets of stations as 16-bit masks: station i is a member exactly when bit i, worth 2^i, is one.
 #![tactic(auto)]
 
-ghost use Rattle.std.specs.Prelude.{◌≡◌, min};
+ghost use Rattle.std.specs.Prelude.{◌≡◌, ◌<◌, min, IfSome};
 ghost use Rattle.std.specs.Int.Bits.{bit_and};
 ghost use Rattle.stations.specs.Member.{member};
-ghost use Rattle.stations.specs.Sets.{everyone as all_of, only as only_of, contains as contains_all, size, places, next_from};
+ghost use Rattle.stations.specs.Sets.{everyone as all_of, only as only_of, contains as contains_all, size, places, next_from, said};
 
 // A mask has places for the stations 0 to 15.
 pub const PLACES: usize = 16;
 
 // A member of a set, and how many members lie above it.
-#[repr(C)]
 #[derive(Clone, Copy)]
 pub struct NextMember {
     pub member: usize,
@@ -18,6 +17,7 @@ pub struct NextMember {
 }
 
 // Whether station i is a member of q. No station from 16 on is.
+#[tactic(auto, using(crate::proofs::Members::member_beyond), unfolding(crate::specs::Member::member))]
 pub fn has(q: u16, i: usize) -> bool
     ensures { result ≡ member q i }
 {
@@ -28,6 +28,7 @@ pub fn has(q: u16, i: usize) -> bool
 }
 
 // The set of station i alone. A mask has no place for a station from 16 on.
+#[tactic(auto, using(crate::proofs::Members::shifted_one, crate::proofs::Built::only_below, crate::proofs::Built::only_beyond))]
 pub fn only(i: usize) -> u16
     ensures { result ≡ only_of i }
 {
@@ -38,6 +39,7 @@ pub fn only(i: usize) -> u16
 }
 
 // The set of the stations 0 to n - 1. A mask has no place for a station from 16 on.
+#[tactic(auto, using(crate::proofs::Built::only_below, crate::proofs::Built::only_some, crate::proofs::Members::everyone_places))]
 pub fn everyone(n: usize) -> u16
     ensures { result ≡ all_of (min n places) }
 {
@@ -55,6 +57,7 @@ pub fn common(a: u16, b: u16) -> u16
 }
 
 // Whether a contains or equals b.
+#[tactic(auto, unfolding(crate::specs::Sets::contains))]
 pub fn contains(a: u16, b: u16) -> bool
     ensures { result ≡ contains_all a b }
 {
@@ -62,32 +65,27 @@ pub fn contains(a: u16, b: u16) -> bool
 }
 
 // The number of members.
+#[tactic(auto, using(crate::proofs::Ones::ones_count))]
 pub fn count(q: u16) -> usize
     ensures { result ≡ size q }
 {
     u16::count_ones(q) as usize
 }
 
-// The lowest member from station `from` on, 16 if there is none, and how many members lie above it. One pass from the highest place down: the
-// last member found is the lowest.
-pub fn lowest_from(q: u16, from: usize) -> NextMember
-    ensures { result ≡ next_from q from }
+// The lowest member from station `from` on, if there is one, and how many members lie above it.
+pub fn lowest_from(q: u16, from: usize) -> Option<NextMember>
+    ensures next { said result ≡ next_from q from }
+    ensures found { IfSome result (λ next. next.member < places) }
 {
-    let mut member = PLACES;
-    let mut found: usize = 0;
-    let mut i = PLACES;
-    while from < i {
-        i -= 1;
-        if has(q, i) {
-            member = i;
-            found += 1;
-        }
+    if PLACES <= from {
+        return None;
     }
-    if found == 0 {
-        return NextMember { member, above: 0 };
+    let rest = q >> from; // the members from there on, each by its distance from there
+    if rest == 0 {
+        return None;
     }
-    NextMember {
-        member,
-        above: found - 1, // but for the member itself
-    }
+    Some(NextMember {
+        member: from + u16::trailing_zeros(rest) as usize,
+        above: count(rest) - 1, // but for the member itself
+    })
 }

@@ -15,7 +15,8 @@ use borrow.Author.Tests.{eq-eqb, eqb-true, eqb-false, ne_eqb, ltb-false}
 use Rattle.lists.proofs.Counting.{each-length, each_at}
 use Rattle.lists.proofs.Searches.{some_at, some-found}
 use Rattle.lists.proofs.Broken.{passes_kept}
-use Rattle.lists.proofs.Tests.{clash, or-none}
+use Rattle.lists.proofs.Tests.{clash}
+use Rattle.std.proofs.lemmas.Bool.{or_parts}
 use Rattle.stations.specs.Member.{member}
 use Rattle.stations.proofs.Built.{member-set, set_below}
 use Rattle.stations.proofs.Members.{member-zero}
@@ -166,7 +167,7 @@ pub cube_kept : (a k room : ℕ) → cube_refusal a k room ≡ 0 → CubeKept a 
 unfolding cube_refusal
 cube_kept a k room e =
     let (two, (seventeen, (few, (enough, end)))) = passes_kept (cube_tests a k room) refl e in
-    let (zero_a, large) = or-none (eqb a 0) (ltb most_stations (cube_stations a k)) seventeen in
+    let (zero_a, large) = or_parts (eqb a 0) (ltb most_stations (cube_stations a k)) seventeen in
     let some : a ≡ 0 → ⊥ = eqb-false a 0 zero_a in
     record {
       stock = up_to_lem most_units k two;

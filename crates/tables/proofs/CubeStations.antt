@@ -1,64 +1,52 @@
--- The number of stations of a cube, a^(k + 1), where it is at most 12.
+-- The number of stations of a cube, a^(k + 1), as the code works it out: by a power that is none where it does not fit its type.
 -- Assumes nothing.
-use mathlib.Core.Bool.{true, false}
-use mathlib.Core.Logic.{⊎_elim, by_cases}
-use mathlib.Core.Path.{◌≡◌, sym, ap, ◌∙◌}
-use Prim.Native.Nat.{ℕ, zero, suc, ◌+◌, ◌*◌, ◌/◌, ◌^◌, ◌≤◌, ◌<◌}
-use native.Mathlib.Decide.{ℕ_discrete}
-use native.Mathlib.Nat.{pow-zero, pow-suc, pow-le-pow_right, one-le-pow, le-div_iff_mul-le, div-lt_iff_lt-mul}
-use native.Mathlib.Numerals.{add-one}
-use native.Mathlib.Omega.{arith}
-use lib.Dec.{eqb, ltb}
-use borrow.Author.Tests.{lt-ltb, le-ltb, eq-eqb, ne_eqb}
-use Rattle.lists.proofs.Tests.{known, or_left, or_right}
-use Rattle.quorum.specs.Limits.{most_stations}
+use Rattle.std.proofs.Common.{◌≡◌, ℕ, ◌+◌, ◌^◌, ◌≤◌, ◌<◌, zero, suc, true, false, refl, sym, ap, ◌∙◌, arith, add-one}
+use Rattle.std.specs.Prelude.{Option, Some, None, not, unwrap_or}
+use Rattle.std.specs.Option.{SomeIff}
+use mathlib.Core.Logic.{by_cases}
+use native.Mathlib.Decide.{dec_le}
+use native.Mathlib.Nat.{pow-suc, one-le-pow}
+use borrow.Author.Tests.{le-leb, lt-leb, le-ltb, lt-ltb, ne_eqb}
+use Rattle.lists.proofs.Tests.{clash}
+use Rattle.quorum.specs.Limits.{most_stations, up_to}
 use Rattle.tables.specs.Cube.{cube_stations, no_cube}
-use Rattle.tables.specs.Inner.BoundedStations.{bounded_stations}
 
-pub bounded_within : (a k n : ℕ) → n ≡ cube_stations a k → n ≤ most_stations → n ≡ bounded_stations a k
-bounded_within a k n e h = rw (le-ltb most_stations (cube_stations a k) (omega arith)) e
+-- there is no cube exactly where the stations are not 1 to 12
+pub no_cube-up_to : (a k : ℕ) → no_cube a k ≡ not (up_to most_stations (cube_stations a k))
+no_cube-up_to zero k =
+    let none : cube_stations 0 k ≡ 0 = rw add-one (pow-suc 0 k ∙ omega arith) in
+    rw none
+no_cube-up_to (suc a) k =
+    let n : ℕ = cube_stations (suc a) k in
+    let some : 1 ≤ n = one-le-pow (k + 1) (suc a) (omega arith) in
+    by_cases (dec_le n most_stations)
+    (λ (few : n ≤ most_stations). rw (ne_eqb (suc a) 0 (λ z. omega arith), le-ltb most_stations n few, le-leb 1 n some, le-leb n most_stations few))
+    (λ (many : ¬ (n ≤ most_stations)). rw (ne_eqb (suc a) 0 (λ z. omega arith), lt-ltb most_stations n (omega arith), le-leb 1 n some, lt-leb n most_stations (omega arith)))
 
-pub bounded_beyond : (a k : ℕ) → most_stations < cube_stations a k → 0 ≡ bounded_stations a k
-bounded_beyond a k h = rw (lt-ltb most_stations (cube_stations a k) h)
+up_to_many : (n : ℕ) → most_stations < n → up_to most_stations n ≡ false
+up_to_many n h = rw (lt-leb n most_stations h, le-leb 1 n (omega arith))
 
--- 0 is 0, and 1 is 1, to any power but 0
-one_power : (k : ℕ) → 1 ^ k ≡ 1
-one_power zero = pow-zero 1
-one_power (suc k) = pow-suc 1 k ∙ omega (arith, one_power k)
+module _ (a k : ℕ) where
+  -- what the code takes for the stations are so many, or both are too many or none
+  worked_out : (power : Option ℕ) → SomeIff power (cube_stations a k < 2 ^ 64) (cube_stations a k)
+      → (up_to most_stations (unwrap_or power 0) ≡ up_to most_stations (cube_stations a k))
+      × (up_to most_stations (unwrap_or power 0) ≡ true → unwrap_or power 0 ≡ cube_stations a k)
+  worked_out (Some n) h = (ap (up_to most_stations) h.1, λ e. h.1)
+  worked_out None h =
+      let large : most_stations < cube_stations a k = omega arith in
+      (sym (up_to_many (cube_stations a k) large), λ e. absurd (clash e refl))
 
-pub small_power : (a k : ℕ) → a < 2 → a ≡ cube_stations a k
-small_power zero k h = rw (add-one k) (sym (pow-suc 0 k ∙ omega arith))
-small_power (suc zero) k h = sym (one_power (k + 1))
-small_power (suc (suc a)) k h = absurd (omega arith)
+  pub cube_refused : (power : Option ℕ) → up_to most_stations (unwrap_or power 0) ≡ false → SomeIff power (cube_stations a k < 2 ^ 64) (cube_stations a k)
+      → no_cube a k ≡ true
+  cube_refused power e h = no_cube-up_to a k ∙ ap not (sym (worked_out power h).0 ∙ e)
 
--- one factor more
-pub next_power : (a i n : ℕ) → n ≡ a ^ i → n * a ≡ a ^ (i + 1)
-next_power a i n e = rw (add-one i) (ap (λ (x : ℕ). x * a) e ∙ sym (pow-suc a i))
+  pub cube_allowed : (power : Option ℕ) → up_to most_stations (unwrap_or power 0) ≡ true → SomeIff power (cube_stations a k < 2 ^ 64) (cube_stations a k)
+      → no_cube a k ≡ false
+  cube_allowed power e h = no_cube-up_to a k ∙ ap not (sym (worked_out power h).0 ∙ e)
 
--- it fits, or the cube does not
-pub factor_fits : (a n : ℕ) → 0 < a → n ≤ most_stations / a → n * a ≤ most_stations
-factor_fits a n some h = (le-div_iff_mul-le {k = a} {x = n} {y = most_stations} some).0 h
+  pub cube_made : (power : Option ℕ) → up_to most_stations (unwrap_or power 0) ≡ true → SomeIff power (cube_stations a k < 2 ^ 64) (cube_stations a k)
+      → unwrap_or power 0 ≡ cube_stations a k
+  cube_made power e h = (worked_out power h).1 e
 
-pub power_large : (a k i n : ℕ) → 0 < a → i ≤ k → n ≡ a ^ i → most_stations / a < n → most_stations < cube_stations a k
-power_large a k i n some h e l =
-    let over : most_stations < n * a = (div-lt_iff_lt-mul {x = most_stations} {y = n} some).0 l in
-    omega (arith, next_power a i n e, pow-le-pow_right some {i = i + 1} {j = k + 1} (omega arith))
-
--- it is 0 exactly where there is no cube
-pub bounded_none : (a k : ℕ) → bounded_stations a k ≡ 0 → no_cube a k ≡ true
-bounded_none a k e =
-    ⊎_elim (λ large. or_right (eqb a 0) (ltb most_stations (cube_stations a k)) large)
-    (λ (within : ltb most_stations (cube_stations a k) ≡ false).
-    let none : cube_stations a k ≡ 0 = rw within at e in
-    or_left (eqb a 0) (ltb most_stations (cube_stations a k))
-    (eq-eqb a 0 (by_cases (ℕ_discrete a 0) (λ z. z) (λ (some : a ≡ 0 → ⊥). absurd (omega (arith, one-le-pow (k + 1) a (omega arith)))))))
-    (known (ltb most_stations (cube_stations a k)))
-
-pub bounded_some : (a k : ℕ) → (bounded_stations a k ≡ 0 → ⊥) → (no_cube a k ≡ false) × (bounded_stations a k ≡ cube_stations a k)
-bounded_some a k some =
-    ⊎_elim (λ large. absurd (some (rw large)))
-    (λ (within : ltb most_stations (cube_stations a k) ≡ false).
-    let same : bounded_stations a k ≡ cube_stations a k = rw within in
-    let not-zero : a ≡ 0 → ⊥ = λ z. some (same ∙ sym (small_power a k (omega arith)) ∙ z) in
-    (rw (ne_eqb a 0 not-zero) within, same))
-    (known (ltb most_stations (cube_stations a k)))
+-- what the test of the stations says, of a power that fits or does not
+pub ruleset stations_tested = (cube_refused, cube_allowed, cube_made)

@@ -1,38 +1,24 @@
--- What the answer and the buffer are on a refusal and on a table written, and what each test of length and room says.
+-- What the answer and the buffer are on a table written.
 -- Assumes nothing.
-use mathlib.Core.List.{List}
-use mathlib.Core.Path.{◌≡◌, refl, sym, ◌∙◌}
-use Prim.Native.Nat.{ℕ, ◌≤◌, ◌<◌}
-use lib.ListN.{length}
+use Rattle.std.proofs.Common.{◌≡◌, ℕ, ◌≤◌, List, ◌++◌, length, take, drop, refl, sym, ap, ◌∙◌, arith}
 use lib.Seq.{sets}
-use borrow.Author.Tests.{lt-ltb, le-ltb, ne_eqb}
+use Rattle.std.proofs.lemmas.List.{append-nil, drop_all, length-take-le}
+use Rattle.std.specs.Prelude.{Ok}
 use Rattle.lists.proofs.Joined.{sets_front}
-use Rattle.quorum.specs.Limits.{most_quorums}
-use Rattle.tables.specs.Made.{no_room, answer, written, said}
+use Rattle.tables.specs.Made.{answer, written, said}
 
--- ---- length and room
+-- ---- a table, stored in as many places at the front
 
--- above 64 quorums, whatever the room
-pub room_many : (quorums room : ℕ) → most_quorums < quorums → no_room quorums room ≡ 18
-unfolding no_room
-room_many quorums room h = rw (lt-ltb most_quorums quorums h)
+pub sets_part : (n : ℕ) (out table : List ℕ) → n ≤ length out → length table ≡ n → sets (take n out) 0 table ++ drop n out ≡ sets out 0 table
+sets_part n out table room size =
+    let part : length (take n out) ≡ n = length-take-le n out room in
+    let front : sets (take n out) 0 table ≡ table =
+    sets_front (take n out) table (omega arith) ∙ ap (λ (l : List ℕ). table ++ l) (drop_all (length table) (take n out) (omega arith)) ∙ append-nil table in
+    rw front (sym (sets_front out table (omega arith) ∙ ap (λ (i : ℕ). table ++ drop i out) size))
 
-pub room-short : (quorums room : ℕ) → quorums ≤ most_quorums → room < quorums → no_room quorums room ≡ 16
-unfolding no_room
-room-short quorums room h l = rw (le-ltb most_quorums quorums h, lt-ltb room quorums l)
+-- ---- the answer and the buffer
 
-pub room_enough : (quorums room : ℕ) → quorums ≤ most_quorums → quorums ≤ room → no_room quorums room ≡ 0
-unfolding no_room
-room_enough quorums room h l = rw (le-ltb most_quorums quorums h, le-ltb room quorums l)
-
--- ---- the answer and the buffer, where the code found the refusal r
-
-module _ (table out : List ℕ) (r refusal : ℕ) (found : r ≡ refusal) where
-  pub on_refusal : (r ≡ 0 → ⊥) → (said (record { refusal = r; quorums = 0 }) ≡ answer refusal table) × (out ≡ written refusal table out)
-  unfolding said answer written
-  on_refusal h = rw (sym found, ne_eqb r 0 h) (refl, refl)
-
-  pub on_table : r ≡ 0 → (quorums : ℕ) (after : List ℕ) → quorums ≡ length table → length table ≤ length out → after ≡ sets out 0 table
-      → (said (record { refusal = r; quorums = quorums }) ≡ answer refusal table) × (after ≡ written refusal table out)
-  unfolding said answer written
-  on_table e quorums after size room stored = rw (sym found, e, size) (refl, stored ∙ sets_front out table room)
+pub on_table : (table out : List ℕ) (refusal quorums : ℕ) (after : List ℕ) → 0 ≡ refusal → quorums ≡ length table → length table ≤ length out
+    → after ≡ sets out 0 table → (said (Ok quorums) ≡ answer refusal table) × (after ≡ written refusal table out)
+unfolding answer written
+on_table table out refusal quorums after found size room stored = rw (sym found, size) (refl, stored ∙ sets_front out table room)

@@ -8,7 +8,8 @@ use native.Mathlib.Omega.{arith}
 use lib.Pow.{pow_pos, pow-lt}
 use borrow.Author.Tests.{leb-false, le-leb, ltb-false}
 use Rattle.lists.proofs.Broken.{passes_kept}
-use Rattle.lists.proofs.Tests.{clash, not-true-false, and_both}
+use Rattle.lists.proofs.Tests.{clash, and_both}
+use Rattle.std.proofs.lemmas.Bool.{false_from_ne_true}
 use Rattle.stations.proofs.Built.{member-only}
 use Rattle.quorum.specs.Accepted.{Accepted}
 use Rattle.quorum.specs.Arbiter.{InAll}
@@ -64,7 +65,7 @@ singleton_accepted n station room k e stock =
 pub singleton_passes : (n station room k : ℕ) → singleton_refusal n station room ≡ 0
     → (lacks_common n k (singleton_table station) ≡ false) × (nested (singleton_table station) ≡ false)
 unfolding lacks_common
-singleton_passes n station room k e = (not-true-false (lacks_common n k (singleton_table station)) lacks_none, most.not-nested)
+singleton_passes n station room k e = (false_from_ne_true (lacks_common n k (singleton_table station)) lacks_none, most.not-nested)
   where
     most : Accepted n most_units (singleton_table station)
     most = singleton_accepted n station room most_units e (omega arith, omega arith)

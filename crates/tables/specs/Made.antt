@@ -1,8 +1,9 @@
 -- What the maker of a ready-made table answers, and what it leaves in the lent buffer.
-use Rattle.std.specs.Prelude.{cond, List, [], ◌∷◌, ◌++◌, ℕ, eqb, ltb, length, drop}
+use Rattle.std.specs.Prelude.{cond, List, [], ◌∷◌, ◌++◌, ℕ, Result, Ok, Err, eqb, ltb, length, drop}
 use Rattle.lists.specs.Broken.{Test, ◌when◌, first_broken}
 use Rattle.quorum.specs.Limits.{most_quorums}
-use Rattle.tables.specs.declared.Made.{Made}
+use Rattle.refusals.specs.Numbers.{number_of}
+use Rattle.refusals.specs.declared.Refusal.{Refusal}
 
 -- "18, 16": 18 "ready-made table above 64 quorums", 16 "output buffer too short", counted in entries
 abbrev pub room_tests : ℕ → ℕ → List Test
@@ -24,6 +25,7 @@ answer refusal table = record { refusal = refusal; quorums = cond (eqb refusal 0
 unfoldable pub written : ℕ → List ℕ → List ℕ → List ℕ
 written refusal table out = cond (eqb refusal 0) (table ++ drop (length table) out) out
 
--- what the code's answer says
-unfoldable pub said : Made → Answer
-said m = record { refusal = m.refusal; quorums = m.quorums }
+-- what the code's answer says: a table's quorums, or the refusal's number and 0
+abbrev pub said : Result ℕ Refusal → Answer
+said (Ok quorums) = record { refusal = 0; quorums = quorums }
+said (Err r) = record { refusal = number_of r; quorums = 0 }

@@ -1,87 +1,81 @@
 // The table of a cube: stations that share a coordinate.
-ghost use Rattle.std.specs.Prelude.{◌≡◌, ◌+◌, ◌≤◌, ◌<◌, length};
-ghost use Rattle.std.proofs.lemmas.List.Edits.{sets};
+ghost use Rattle.std.specs.Prelude.{◌≡◌, ◌<◌, ◌≤◌};
 ghost use Rattle.quorum.specs.Limits.{most_stations, most_units};
-ghost use Rattle.tables.specs.Cube.{cube_stations, agree as agree_in, cube_quorum, cube_table, cube_refusal};
-ghost use Rattle.tables.specs.Inner.BoundedStations.{bounded_stations};
+ghost use Rattle.tables.specs.Cube.{cube_stations};
 
-// The number of stations, a^(k + 1), where that is at most 12, else 0.
-pub(crate) fn stations_of(a: usize, k: usize) -> usize
-    requires { k ≤ most_units }
-    ensures { result ≡ bounded_stations a k }
-{
-    if a < 2 {
-        return a;
-    }
-    let mut n: usize = 1;
-    let mut i: usize = 0;
-    while i <= k {
-        if quorum::MOST_STATIONS / a < n {
-            return 0;
+use refusals::Refusal;
+
+// A cube of a stations along each of k + 1 coordinates, of which at most 12 are made.
+#[derive(Clone, Copy)]
+pub(crate) struct Cube {
+    a: usize,
+    k: usize,
+    pub(crate) stations: usize,
+    ghost some: { 0 < a },
+    ghost in_stock: { k ≤ most_units },
+    ghost few: { stations ≤ most_stations },
+    ghost power: { stations ≡ cube_stations a k },
+}
+
+impl Cube {
+    ghost use Rattle.std.specs.Prelude.{◌+◌, length, IfOk};
+    ghost use Rattle.std.proofs.lemmas.List.Edits.{sets};
+    ghost use Rattle.refusals.specs.Numbers.{refusal_of};
+    ghost use Rattle.tables.specs.Cube.{agree, cube_quorum, cube_table, cube_refusal};
+
+    // The cube of a and k, whose table fits a buffer of so many entries.
+    #[tactic(auto, unfolding(crate::specs::Made::no_room, crate::specs::Cube::cube_refusal), using(crate::proofs::CubeArbiter::cube_length, crate::proofs::CubeStations::stations_tested))]
+    pub(crate) fn fitting(a: usize, k: usize, room: usize) -> Result<Cube, Refusal>
+        ensures refused { refusal_of result ≡ cube_refusal a k room }
+        ensures made { IfOk result (λ cube. (cube.a ≡ a) × (cube.k ≡ k)) }
+    {
+        if !quorum::limits::up_to(quorum::MOST_UNITS, k) {
+            return Err(Refusal::BadStock);
         }
-        n *= a;
-        i += 1;
-    }
-    n
-}
-
-// Whether the stations p and q agree in at least one of the first d coordinates.
-fn agree(a: usize, d: usize, p: usize, q: usize) -> bool
-    requires { 0 < a }
-    ensures { result ≡ agree_in a d p q }
-{
-    let mut left = p;
-    let mut right = q;
-    let mut i: usize = 0;
-    while i < d {
-        if left % a == right % a {
-            return true;
+        let stations = a.checked_pow(k as u32 + 1).unwrap_or(0); // no cube either where the power does not fit
+        if !quorum::limits::up_to(quorum::MOST_STATIONS, stations) {
+            return Err(Refusal::NoCube);
         }
-        left /= a;
-        right /= a;
-        i += 1;
+        crate::room::fits(stations, room)?;
+        Ok(Cube { a, k, stations })
     }
-    false
-}
 
-// The quorum of station p, where a^(k + 1) stations are n.
-fn quorum_of(a: usize, k: usize, n: usize, p: usize) -> u16
-    requires { (0 < a) × (k ≤ most_units) × (n ≤ most_stations) × (n ≡ cube_stations a k) }
-    ensures { result ≡ cube_quorum a k p }
-{
-    let mut quorum: u16 = 0;
-    let mut q: usize = 0;
-    while q < n {
-        if agree(a, k + 1, p, q) {
-            quorum += stations::only(q);
+    // Whether the stations p and q agree in at least one coordinate.
+    fn agree(self, p: usize, q: usize) -> bool
+        ensures { result ≡ agree self.a (self.k + 1) p q }
+    {
+        let mut left = p;
+        let mut right = q;
+        for _ in 0..=self.k {
+            if left % self.a == right % self.a {
+                return true;
+            }
+            left /= self.a;
+            right /= self.a;
         }
-        q += 1;
+        false
     }
-    quorum
-}
 
-// The refusal of a and k units, in a buffer of so many entries, 0 if there is none.
-pub(crate) fn refusal(a: usize, k: usize, room: usize) -> u8
-    ensures { result ≡ cube_refusal a k room }
-{
-    if !quorum::limits::up_to(quorum::MOST_UNITS, k) {
-        return refusals::BAD_STOCK;
+    // The quorum of station p.
+    fn quorum_of(self, p: usize) -> u16
+        ensures { result ≡ cube_quorum self.a self.k p }
+    {
+        let mut quorum: u16 = 0;
+        for q in 0..self.stations {
+            if self.agree(p, q) {
+                quorum += stations::only(q);
+            }
+        }
+        quorum
     }
-    let n = stations_of(a, k);
-    if n == 0 {
-        return refusals::NO_CUBE;
-    }
-    crate::room::no_room(n, room)
-}
 
-// Writes the quorum of every station, in the order of the stations.
-pub(crate) fn write_quorums(a: usize, k: usize, n: usize, out: &mut [u16])
-    requires { (0 < a) × (k ≤ most_units) × (n ≤ most_stations) × (n ≡ cube_stations a k) × (n ≤ length out.old) }
-    ensures { out.new ≡ sets out.old 0 (cube_table a k) }
-{
-    let mut p: usize = 0;
-    while p < n {
-        out[p] = quorum_of(a, k, n, p);
-        p += 1;
+    // Writes the quorum of every station, in the order of the stations.
+    pub(crate) fn write(self, out: &mut [u16])
+        requires { self.stations ≤ length out.old }
+        ensures { out.new ≡ sets out.old 0 (cube_table self.a self.k) }
+    {
+        for (p, place) in out[..self.stations].iter_mut().enumerate() {
+            *place = self.quorum_of(p);
+        }
     }
 }

@@ -12,66 +12,40 @@ mod room;
 mod singletons;
 mod uniforms;
 
-// What the maker of a table answers: the refusal, and the number of quorums written, 0 on a refusal.
-#[repr(C)]
-#[derive(Clone, Copy)]
-pub struct Made {
-    pub refusal: u8,
-    pub quorums: usize,
-}
+use cubes::Cube;
+use refusals::Refusal;
+use uniforms::Sets;
+
+// Each maker answers the number of quorums written, and leaves the buffer as it was where it refuses.
 
 // One quorum of one of n stations.
-pub fn singleton(n: usize, station: usize, out: &mut [u16]) -> Made
+#[tactic(auto, unfolding(crate::specs::Made::answer, crate::specs::Made::written), using(refusals::proofs::Outcomes::some_number))]
+pub fn singleton(n: usize, station: usize, out: &mut [u16]) -> Result<usize, Refusal>
     ensures answered { said result ≡ answer (singleton_refusal n station (length out.old)) (singleton_table station) }
     ensures written { out.new ≡ written (singleton_refusal n station (length out.old)) (singleton_table station) out.old }
 {
-    let refusal = singletons::refusal(n, station, out.len());
-    if refusal != refusals::NO_REFUSAL {
-        return Made {
-            refusal,
-            quorums: 0,
-        };
-    }
+    singletons::fits(n, station, out.len())?;
     out[0] = stations::only(station);
-    Made {
-        refusal,
-        quorums: 1,
-    }
+    Ok(1)
 }
 
 // All sets of floor(k × n / (k + 1)) + 1 of n stations, by ascending number.
-pub fn uniform(n: usize, k: usize, out: &mut [u16]) -> Made
+#[tactic(auto, unfolding(crate::specs::Made::answer, crate::specs::Made::written), using(refusals::proofs::Outcomes::some_number))]
+pub fn uniform(n: usize, k: usize, out: &mut [u16]) -> Result<usize, Refusal>
     ensures answered { said result ≡ answer (uniform_refusal n k (length out.old)) (uniform_table n k) }
     ensures written { out.new ≡ written (uniform_refusal n k (length out.old)) (uniform_table n k) out.old }
 {
-    let refusal = uniforms::refusal(n, k, out.len());
-    if refusal != refusals::NO_REFUSAL {
-        return Made {
-            refusal,
-            quorums: 0,
-        };
-    }
-    let size = uniforms::size_of(n, k);
-    let quorums = uniforms::write_sets(n, size, 0, 0, out);
-    Made { refusal, quorums }
+    let sets = Sets::fitting(n, k, out.len())?;
+    Ok(sets.write(0, out))
 }
 
 // For each of a^(k + 1) stations the quorum of those that agree with it in at least one coordinate.
-pub fn cube(a: usize, k: usize, out: &mut [u16]) -> Made
+#[tactic(auto, unfolding(crate::specs::Made::answer, crate::specs::Made::written), using(refusals::proofs::Outcomes::some_number))]
+pub fn cube(a: usize, k: usize, out: &mut [u16]) -> Result<usize, Refusal>
     ensures answered { said result ≡ answer (cube_refusal a k (length out.old)) (cube_table a k) }
     ensures written { out.new ≡ written (cube_refusal a k (length out.old)) (cube_table a k) out.old }
 {
-    let refusal = cubes::refusal(a, k, out.len());
-    if refusal != refusals::NO_REFUSAL {
-        return Made {
-            refusal,
-            quorums: 0,
-        };
-    }
-    let n = cubes::stations_of(a, k);
-    cubes::write_quorums(a, k, n, out);
-    Made {
-        refusal,
-        quorums: n,
-    }
+    let cube = Cube::fitting(a, k, out.len())?;
+    cube.write(out);
+    Ok(cube.stations)
 }

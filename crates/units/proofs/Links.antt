@@ -1,47 +1,59 @@
--- Of a program that is linked from crates: the table of this crate's functions, and that in a program that has the table, and what the functions name
--- of other crates, each function is there with all that it names. The checker makes both.
+-- Of a program that is linked from crates: the table of the functions of this crate that the calls need, and that in a program that has the table, and
+-- what they name of other crates, each is there with all that it names. The checker makes the link of each function.
 -- Assumes nothing.
 use mathlib.Core.Bool.{true}
-use prog.Linked.{Tree, World, Holds, in_world}
+use mathlib.Core.Path.{refl}
+use prog.Linked.{Tree, World, Holds, in_world, in_table}
 use prog.LinkedThreads.{HasT}
-use Rattle.units.proofs.TheLink as link
+use Rattle.quorum.proofs.limits.up_to.Symbol as up_to
 use Rattle.units.proofs.asked_with.Symbol as asked_with
+use Rattle.units.proofs.asked_with.TheLink as asked_with-link
 use Rattle.units.proofs.fits.Symbol as fits
+use Rattle.units.proofs.fitting.fits.TheLink as fits-link
+use Rattle.units.proofs.fitting.smaller.Symbol as smaller
+use Rattle.units.proofs.fitting.smaller.TheLink as smaller-link
 use Rattle.units.proofs.grant_in.Symbol as grant_in
+use Rattle.units.proofs.grant_in.TheLink as grant_in-link
 use Rattle.units.proofs.no_units.Symbol as no_units
-use Rattle.units.proofs.number_of.Symbol as number_of
+use Rattle.units.proofs.no_units.TheLink as no_units-link
 use Rattle.units.proofs.request_in.Symbol as request_in
-use Rattle.units.proofs.stock_of.Symbol as stock_of
+use Rattle.units.proofs.request_in.TheLink as request_in-link
 use Rattle.units.proofs.units_of.Symbol as units_of
+use Rattle.units.proofs.units_of.TheLink as units_of-link
 
+-- by the order of their symbols
 abbrev pub table : Tree
-table = link.table
+table =
+    Tree.fork Tree.leaf "units::asked_with" asked_with-link.entry
+    (Tree.fork Tree.leaf "units::fitting::fits" fits-link.entry
+    (Tree.fork Tree.leaf "units::fitting::smaller" smaller-link.entry
+    (Tree.fork Tree.leaf "units::grant_in" grant_in-link.entry
+    (Tree.fork Tree.leaf "units::no_units" no_units-link.entry
+    (Tree.fork Tree.leaf "units::request_in" request_in-link.entry
+    (Tree.fork Tree.leaf "units::units_of" units_of-link.entry Tree.leaf))))))
 
--- what the functions name of other crates is there
+-- what they name of other crates is there
 abbrev pub Below : World → Type 0
-Below = link.Below
+Below W = HasT (in_world W) true up_to.code
 
-module _ (W : World) (here : Holds W "units" table) (below : Below W) where
+module _ (W : World) (here : Holds W "units" table) where
   pub asked_with-linked : HasT (in_world W) true asked_with.code
-  asked_with-linked = link.linked-units::asked_with W here below
+  asked_with-linked = asked_with-link.has (in_world W) true (in_table W "units" table here "units::asked_with" refl)
+
+  smaller-linked : HasT (in_world W) true smaller.code
+  smaller-linked = smaller-link.has (in_world W) true (in_table W "units" table here "units::fitting::smaller" refl)
 
   pub fits-linked : HasT (in_world W) true fits.code
-  fits-linked = link.linked-units::fitting::fits W here below
+  fits-linked = fits-link.has (in_world W) true (in_table W "units" table here "units::fitting::fits" refl) smaller-linked
 
   pub grant_in-linked : HasT (in_world W) true grant_in.code
-  grant_in-linked = link.linked-units::grant_in W here below
+  grant_in-linked = grant_in-link.has (in_world W) true (in_table W "units" table here "units::grant_in" refl)
 
   pub no_units-linked : HasT (in_world W) true no_units.code
-  no_units-linked = link.linked-units::no_units W here below
-
-  pub number_of-linked : HasT (in_world W) true number_of.code
-  number_of-linked = link.linked-units::number_of W here below
-
-  pub request_in-linked : HasT (in_world W) true request_in.code
-  request_in-linked = link.linked-units::request_in W here below
-
-  pub stock_of-linked : HasT (in_world W) true stock_of.code
-  stock_of-linked = link.linked-units::stock_of W here below
+  no_units-linked = no_units-link.has (in_world W) true (in_table W "units" table here "units::no_units" refl)
 
   pub units_of-linked : HasT (in_world W) true units_of.code
-  units_of-linked = link.linked-units::units_of W here below
+  units_of-linked = units_of-link.has (in_world W) true (in_table W "units" table here "units::units_of" refl) no_units-linked
+
+  pub request_in-linked : Below W → HasT (in_world W) true request_in.code
+  request_in-linked below = request_in-link.has (in_world W) true (in_table W "units" table here "units::request_in" refl) below

@@ -1,38 +1,26 @@
 // Whether units fit beside those that are granted.
-ghost use Rattle.std.specs.Prelude.{◌≡◌, ◌≤◌, ◌<◌};
-ghost use Rattle.quorum.specs.Limits.{most_stations};
+ghost use Rattle.std.specs.Prelude.{◌≡◌, min};
 ghost use Rattle.units.specs.Granted.{granted_of};
 ghost use Rattle.units.specs.Units.{fits as fits_of};
 
 use crate::{STATIONS, Units};
 
-// An amount of units, at most 255 in any record.
-fn positions(u: Units) -> usize
-    ensures { (result ≡ u.positions) × (result ≤ 255) }
+// no `min`: the program that `program-has` of `claim` is of has no function of the library
+pub(crate) fn smaller(a: usize, b: usize) -> usize
+    ensures { result ≡ min a b }
 {
-    u.positions as usize
-}
-
-// Of n stations, those that an array has places for.
-fn with_place(n: usize) -> usize
-    ensures { (result ≤ n) × (result ≤ most_stations) × (result < n → most_stations ≤ result) }
-{
-    if STATIONS < n {
-        return STATIONS;
-    }
-    n
+    if a < b { a } else { b }
 }
 
 // Beside those that are granted to the stations below n; there is no station past the array's end.
 pub fn fits(n: usize, stock: Units, granted: [Units; STATIONS], u: Units) -> bool
     ensures { result ≡ fits_of n stock (granted_of n granted) u }
 {
-    let last = with_place(n);
-    let mut sum = positions(u);
-    let mut s: usize = 0;
-    while s < last {
-        sum += positions(granted[s]);
-        s += 1;
+    let stations = smaller(n, STATIONS);
+    let mut sum = u.positions as usize;
+    // no chain: its `sum` learns of no unit that it is at most 255
+    for units in &granted[..stations] {
+        sum += units.positions as usize;
     }
-    sum <= positions(stock)
+    sum <= stock.positions as usize
 }

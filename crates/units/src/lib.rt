@@ -12,11 +12,13 @@ pub use fitting::fits;
 pub const STATIONS: usize = quorum::MOST_STATIONS;
 
 #[repr(C)]
-#[derive(Clone, Copy)]
+#[derive(Clone, Copy, Debug, PartialEq, Eq)]
 pub struct Units {
     pub positions: u8,
 }
 
+// What follows are functions, no methods and no conversions by From: there are two rules from a number (`units_of`, `stock_of`) and two to one
+// (`number_of`, `asked_with`), and each name is a word of the definitions, under which the crates above call and cite it.
 pub fn no_units() -> Units
     ensures { result ≡ no_units_rule }
 {
@@ -24,6 +26,7 @@ pub fn no_units() -> Units
 }
 
 // The units that a caller's number stands for, who may give any: none where no stock has as many.
+#[tactic(auto, unfolding(crate::specs::Units::storable, crate::specs::Units::units_of))]
 pub fn units_of(number: usize) -> Units
     ensures { result ≡ storable units_of_rule number }
 {
@@ -35,7 +38,8 @@ pub fn units_of(number: usize) -> Units
     }
 }
 
-// The stock that a caller's number stands for, likewise.
+// The stock that a caller's number stands for, likewise. No twin: with a second stock it is another rule (`stock_of` of the definitions).
+#[tactic(auto, unfolding(crate::specs::Units::storable, crate::specs::Units::units_of, crate::specs::Units::stock_of))]
 pub fn stock_of(number: usize) -> Units
     ensures { result ≡ storable stock_of_rule number }
 {
@@ -43,6 +47,7 @@ pub fn stock_of(number: usize) -> Units
 }
 
 // The number that stands for units.
+#[tactic(auto, unfolding(crate::specs::Units::number_of))]
 pub fn number_of(u: Units) -> u8
     ensures { result ≡ number_of u }
 {
@@ -50,6 +55,7 @@ pub fn number_of(u: Units) -> u8
 }
 
 // The k that a table is asked with.
+#[tactic(auto, unfolding(crate::specs::Units::asked_with))]
 pub fn asked_with(stock: Units) -> usize
     ensures { result ≡ asked_with_rule stock }
 {
@@ -57,6 +63,7 @@ pub fn asked_with(stock: Units) -> usize
 }
 
 // Whether units are in range where they were asked for.
+#[tactic(auto, unfolding(crate::specs::Units::request_in))]
 pub fn request_in(stock: Units, u: Units) -> bool
     ensures { result ≡ request_in_rule stock u }
 {
@@ -64,6 +71,7 @@ pub fn request_in(stock: Units, u: Units) -> bool
 }
 
 // Whether units are in range where they are granted.
+#[tactic(auto, unfolding(crate::specs::Units::grant_in))]
 pub fn grant_in(stock: Units, u: Units) -> bool
     ensures { result ≡ grant_in_rule stock u }
 {

@@ -1,12 +1,13 @@
 // GONE at stations in each phase, from records made by hand; WITHDRAW to an arbiter that is no member, and with many entries in line.
 use plain::{Message, Phase};
 use records::Record;
-use scripts::{by_hand, script};
+use scripts::by_hand::{self, Way};
+use scripts::script;
 use std::io;
 
 // It is taken, and nothing else happens.
 fn dropped(rt: &impl Print, p2: Record) -> io::Result<()> {
-    let r = by_hand::with_down(p2, 0, 0, by_hand::lane(1, Message::Gone));
+    let r = by_hand::with_lane(p2, Way::Down, 0, 0, by_hand::lane(1, Message::Gone));
     script::play(rt, r, b"gone to idle: down(0,0) down(0,0) request(0,0,1)")?;
     let collecting = by_hand::collecting(0, 1, 0);
     script::play(
@@ -25,7 +26,7 @@ fn dropped(rt: &impl Print, p2: Record) -> io::Result<()> {
 
 // Whichever arbiter it comes from, it makes a withdrawing station idle.
 fn from_another(rt: &impl Print, p2: Record) -> io::Result<()> {
-    let r = by_hand::with_down(p2, 0, 2, by_hand::lane(1, Message::Gone));
+    let r = by_hand::with_lane(p2, Way::Down, 0, 2, by_hand::lane(1, Message::Gone));
     script::play(
         rt,
         by_hand::with_phase(r, 0, Phase::Withdrawing),
@@ -50,7 +51,7 @@ fn every_entry(rt: &impl Print, p2: Record) -> io::Result<()> {
     let r = by_hand::with_arbiter(p2, 0, by_hand::waiting(12, 1, 1));
     script::play(
         rt,
-        by_hand::with_up(r, 1, 0, by_hand::lane(1, Message::Withdraw)),
+        by_hand::with_lane(r, Way::Up, 1, 0, by_hand::lane(1, Message::Withdraw)),
         b"every entry: up(1,0) down(1,0) down(1,0) request(2,0,1) up(2,0) down(2,0)",
     )?;
     Ok(())

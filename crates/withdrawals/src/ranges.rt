@@ -1,14 +1,15 @@
 // What a record in range may hold of withdrawals, and where.
 use plain::{Message, Phase};
 use records::Record;
-use scripts::{by_hand, changed, script};
+use scripts::by_hand::{self, Way};
+use scripts::{changed, script};
 use std::io;
 
 fn lanes(rt: &impl Print, p2: Record) -> io::Result<()> {
-    changed::up_lane(rt, p2, 4, Message::Withdraw)?;
-    changed::up_lane(rt, p2, 1, Message::Gone)?;
-    changed::down_lane(rt, p2, 1, Message::Gone)?;
-    changed::down_lane(rt, p2, 1, Message::Withdraw)
+    changed::lane(rt, p2, Way::Up, 4, Message::Withdraw)?;
+    changed::lane(rt, p2, Way::Up, 1, Message::Gone)?;
+    changed::lane(rt, p2, Way::Down, 1, Message::Gone)?;
+    changed::lane(rt, p2, Way::Down, 1, Message::Withdraw)
 }
 
 // A withdrawing station, and the empty record.

@@ -1,33 +1,8 @@
--- `calls::up` meets its contract. 19 first, then the lane's refusals, then what the message makes of the record.
+-- `calls::up` meets its contract. It answers what is made of a copy of the record.
 -- Assumes nothing.
-use mathlib.Core.Bool.{true, not}
-use mathlib.Core.Path.{◌≡◌, refl, sym, ap, ◌∙◌}
-use native.Mathlib.Omega.{arith}
-use Rattle.plain.specs.InRange.{in_range}
-use Rattle.plain.proofs.Passed.{up-refused}
-use Rattle.records.specs.View.{view}
-use Rattle.calls.proofs.RecordInRange.{few, up-short}
-use Rattle.calls.proofs.TakingMessage.{up_turned}
+use Rattle.calls.specs.Answers.{answer_of}
 use Rattle.calls.proofs.up.Goals as goal
-use Rattle.calls.proofs.up.Goals.{Else-not-in_range}
 
-pub returns-then-not-in_range : goal.returns-then-not-in_range
-returns-then-not-in_range c = record { answer = c.refuse.ensures.answer ∙ sym (up-refused _ _ _ 0 (tt, ap not (sym c.in_range.ensures ∙ c.if-not-in_range.true)) refl); refused = λ z. c.refuse.ensures.same }
-
-range : (c : Else-not-in_range) → in_range (view c.args.r) ≡ true
-range c = sym c.in_range.ensures ∙ c.if-not-in_range.false
-
-pub take_oldest-taken-requires : goal.take_oldest-taken-requires
-take_oldest-taken-requires c =
-    let r = c.args.r in
-    (few r (range (goal.at.take_oldest-taken-requires c).Else-not-in_range), λ s j p q. omega (arith, up-short r (range (goal.at.take_oldest-taken-requires c).Else-not-in_range) s j p q))
-
-pub returns-then-taken-ne-NO_REFUSAL : goal.returns-then-taken-ne-NO_REFUSAL
-unfolding view
-returns-then-taken-ne-NO_REFUSAL c =
-    record { answer = c.refuse-then-taken-ne-NO_REFUSAL.ensures.answer ∙ sym (up_turned _ _ _ _ (range (goal.at.returns-then-taken-ne-NO_REFUSAL c).Else-not-in_range) c.if-taken-ne-NO_REFUSAL.true c.take_oldest-taken.ensures.refusal); refused = λ z. c.refuse-then-taken-ne-NO_REFUSAL.ensures.same }
-
-pub deliver_up-requires : goal.deliver_up-requires
-unfolding view
-deliver_up-requires c =
-    record { range = range (goal.at.deliver_up-requires c).Else-not-in_range; few = few c.args.r (range (goal.at.deliver_up-requires c).Else-not-in_range); took = c.take_oldest-taken.ensures.taken c.if-taken-ne-NO_REFUSAL.false }
+pub returns-clause-answer : goal.returns-clause-answer
+unfolding answer_of
+returns-clause-answer c = c.deliver-outcome.ensures.answer

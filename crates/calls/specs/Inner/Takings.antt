@@ -7,12 +7,12 @@ use Rattle.calls.specs.declared.downs.Taking.{Taking}
 use Rattle.calls.specs.declared.downs.Taking.TheVariants.{Asks, Holds, Drops}
 
 abbrev pub taken_of : Taking → Taken
-taken_of (Asks q h m a) = Taken.asks q h m
+taken_of (Asks w) = Taken.asks w.quorum w.units w.member
 taken_of (Holds q h) = Taken.holds q h
 taken_of Drops = Taken.drops
 
 -- a member that is asked is one of the n stations, and so many members of its quorum lie above it
 abbrev pub within : ℕ → List ℕ → Taking → Bool
-within n table (Asks q h m a) = ltb m n && eqb a (members_above (quorum table q) m)
+within n table (Asks w) = ltb w.member n && eqb w.above (members_above (quorum table w.quorum) w.member)
 within n table (Holds q h) = true
 within n table Drops = true

@@ -6,19 +6,22 @@ use mathlib.Core.Logic.{⊎_elim}
 use mathlib.Core.Path.{◌≡◌, sym, ap, ◌∙◌}
 use Prim.Native.Nat.{ℕ}
 use lib.ListN.{length}
+use Rattle.std.specs.Prelude.{Result, Ok}
 use borrow.Author.Tests.{le-leb}
-use Rattle.lists.proofs.Tests.{known, and_both}
+use Rattle.lists.proofs.Tests.{and_both}
+use Rattle.std.proofs.lemmas.Bool.{cases_Bool}
 use Rattle.quorum.specs.Answer.{said, answer_to, answer}
 use Rattle.quorum.specs.Limits.{most_units, up_to}
 use Rattle.quorum.specs.Refusal.{refusal}
-use Rattle.quorum.specs.declared.Checked.{Checked}
+use Rattle.quorum.specs.declared.Accepted.{Accepted}
+use Rattle.quorum.specs.declared.Rejected.{Rejected}
 use Rattle.quorum.proofs.Promises.{passed_limits, Limits, said-refusal}
 use Rattle.units.specs.Units.{asked_with, stock_of, storable}
 use Rattle.units.specs.declared.Units.{Units}
 use Rattle.units.proofs.Numbers.{asked-stored, stock-stored}
-use Rattle.machine.proofs.OpeningRecord.{opening-refused, opening-fresh}
+use Rattle.machine.proofs.OpeningRecord.{rejected-number, some_rejection, opening-refused, opening-fresh}
 use Rattle.machine.proofs.inspect.Goals as goal
-use Rattle.machine.proofs.inspect.Goals.{Else-checked-ne-NO_REFUSAL}
+use Rattle.machine.proofs.inspect.Goals.{After-check-checked}
 
 -- more than any stock has is refused as none are
 refused_alike : (n x y : ℕ) (table : List ℕ) (room : ℕ) → up_to most_units x ≡ false → up_to most_units y ≡ false → refusal n x table room ≡ refusal n y table room
@@ -30,10 +33,10 @@ unfolding answer
 asked n k table room =
     ⊎_elim {C = answer n (asked_with (storable stock_of k)) table room ≡ answer n (asked_with (stock_of k)) table room} (λ t. ap (λ (u : Units). answer n (asked_with u) table room) (stock-stored k t))
     (λ f. ap (answer_to n table) (refused_alike n (asked_with (storable stock_of k)) (asked_with (stock_of k)) table room f (sym (asked-stored k) ∙ f)))
-    (known (up_to most_units (asked_with (storable stock_of k))))
+    (cases_Bool (up_to most_units (asked_with (storable stock_of k))))
 
 -- what the check answers, asked with the units of the stock that the number k stands for
-module _ (n k : ℕ) (table : List ℕ) (room : ℕ) (stock : Units) (stored : stock ≡ storable stock_of k) (units : ℕ) (with_stock : units ≡ asked_with stock) (found : Checked)
+module _ (n k : ℕ) (table : List ℕ) (room : ℕ) (stock : Units) (stored : stock ≡ storable stock_of k) (units : ℕ) (with_stock : units ≡ asked_with stock) (found : Result Accepted Rejected)
     (answered : said found ≡ answer n units table room) where
   -- the check is asked with the stock's k
   checked : said found ≡ answer n (asked_with (stock_of k)) table room
@@ -44,44 +47,56 @@ module _ (n k : ℕ) (table : List ℕ) (room : ℕ) (stock : Units) (stored : s
   is_stock kept = stored ∙ stock-stored k (asked-stored k ∙ kept)
 
   -- the refusal that it gives
-  refused : found.refusal ≡ refusal n (asked_with (stock_of k)) table room
+  refused : (said found).refusal ≡ refusal n (asked_with (stock_of k)) table room
   refused = said-refusal n (asked_with (stock_of k)) table room found checked
 
-pub returns-then-checked-ne-NO_REFUSAL : goal.returns-then-checked-ne-NO_REFUSAL
-returns-then-checked-ne-NO_REFUSAL c =
-    let x = c.args in
-    let room = length x.scratch.now in
-    record {
-      checked = checked x.n x.k x.quorums.now room _ c.stock_of-stock.ensures _ c.asked_with.ensures c.check-checked.result c.check-checked.ensures.answered;
-      state = opening-refused x.n (stock_of x.k) x.quorums.now room _
-          (refused x.n x.k x.quorums.now room _ c.stock_of-stock.ensures _ c.asked_with.ensures c.check-checked.result c.check-checked.ensures.answered) _
-          c.if-checked-ne-NO_REFUSAL.true (rw c.no_units.ensures at c.blank.ensures);
-      cleaned = c.check-checked.ensures.cleaned;
-    }
+-- the check's whole answer, and the refusal in it
+module _ (c : After-check-checked) where
+  abbrev room : ℕ
+  room = length c.args.scratch.now
 
--- nothing is refused, so the limits are kept
-kept : (c : Else-checked-ne-NO_REFUSAL) → Limits c.args.n (asked_with (stock_of c.args.k)) c.args.quorums.now
-kept c =
-    let x = c.args in
-    let room = length x.scratch.now in
-    passed_limits x.n (asked_with (stock_of x.k)) x.quorums.now room
-    (sym (refused x.n x.k x.quorums.now room _ c.stock_of-stock.ensures _ c.asked_with.ensures c.check-checked.result c.check-checked.ensures.answered) ∙ c.if-checked-ne-NO_REFUSAL.false)
+  answered : said c.check-checked.result ≡ answer c.args.n (asked_with (stock_of c.args.k)) c.args.quorums.now room
+  answered = checked c.args.n c.args.k c.args.quorums.now room _ c.stock_of-stock.ensures _ c.asked_with.ensures c.check-checked.result c.check-checked.ensures.answered
+
+  turned : (said c.check-checked.result).refusal ≡ refusal c.args.n (asked_with (stock_of c.args.k)) c.args.quorums.now room
+  turned = refused c.args.n c.args.k c.args.quorums.now room _ c.stock_of-stock.ensures _ c.asked_with.ensures c.check-checked.result c.check-checked.ensures.answered
+
+  -- where nothing is refused
+  module _ (accepted : Accepted) (is : c.check-checked.result ≡ Ok accepted) where
+    none : (said c.check-checked.result).refusal ≡ 0
+    none = ap (λ (found : Result Accepted Rejected). (said found).refusal) is
+
+    -- the limits are kept
+    kept : Limits c.args.n (asked_with (stock_of c.args.k)) c.args.quorums.now
+    kept = passed_limits c.args.n (asked_with (stock_of c.args.k)) c.args.quorums.now room (sym turned ∙ none)
+
+    same : c.stock_of-stock.result ≡ stock_of c.args.k
+    same =
+        let (some, most) = kept.stock in
+        let units = asked_with (stock_of c.args.k) in
+        is_stock c.args.n c.args.k c.args.quorums.now room _ c.stock_of-stock.ensures _ c.asked_with.ensures c.check-checked.result c.check-checked.ensures.answered
+        (and_both (le-leb 1 units some) (le-leb units most_units most))
 
 pub fresh-record-requires : goal.fresh-record-requires
-fresh-record-requires c = ((kept (goal.at.fresh-record-requires c).Else-checked-ne-NO_REFUSAL).stations.1, (kept (goal.at.fresh-record-requires c).Else-checked-ne-NO_REFUSAL).quorums.1)
+fresh-record-requires c =
+    let limits = kept (goal.at.fresh-record-requires c).After-check-checked c.in-Ok.field-0 c.in-Ok.is in
+    (limits.stations.1, limits.quorums.1)
 
-pub returns : goal.returns
-returns c =
+pub returns-in-Ok-clause-checked : goal.returns-in-Ok-clause-checked
+returns-in-Ok-clause-checked c = answered (goal.at.returns-in-Ok-clause-checked c).After-check-checked
+
+pub returns-in-Ok-clause-state : goal.returns-in-Ok-clause-state
+returns-in-Ok-clause-state c =
     let x = c.args in
-    let room = length x.scratch.now in
-    let (some, most) = (kept (goal.at.returns c).Else-checked-ne-NO_REFUSAL).stock in
-    let units = asked_with (stock_of x.k) in
-    let same = is_stock x.n x.k x.quorums.now room _ c.stock_of-stock.ensures _ c.asked_with.ensures c.check-checked.result c.check-checked.ensures.answered
-    (and_both (le-leb 1 units some) (le-leb units most_units most)) in
-    record {
-      checked = checked x.n x.k x.quorums.now room _ c.stock_of-stock.ensures _ c.asked_with.ensures c.check-checked.result c.check-checked.ensures.answered;
-      state = opening-fresh x.n (stock_of x.k) x.quorums.now room _
-          (refused x.n x.k x.quorums.now room _ c.stock_of-stock.ensures _ c.asked_with.ensures c.check-checked.result c.check-checked.ensures.answered) _
-          c.if-checked-ne-NO_REFUSAL.false (rw same at c.fresh-record.ensures);
-      cleaned = c.check-checked.ensures.cleaned;
-    }
+    let here = (goal.at.returns-in-Ok-clause-state c).After-check-checked in
+    opening-fresh x.n (stock_of x.k) x.quorums.now (length x.scratch.now) _ (turned here) _ (none here c.in-Ok.field-0 c.in-Ok.is) (rw (same here c.in-Ok.field-0 c.in-Ok.is) at c.fresh-record.ensures)
+
+pub returns-in-Err-clause-checked : goal.returns-in-Err-clause-checked
+returns-in-Err-clause-checked c = answered (goal.at.returns-in-Err-clause-checked c).After-check-checked
+
+pub returns-in-Err-clause-state : goal.returns-in-Err-clause-state
+returns-in-Err-clause-state c =
+    let x = c.args in
+    let here = (goal.at.returns-in-Err-clause-state c).After-check-checked in
+    let is = ap (λ (found : Result Accepted Rejected). (said found).refusal) c.in-Err.is ∙ rejected-number c.in-Err.field-0 in
+    opening-refused x.n (stock_of x.k) x.quorums.now (length x.scratch.now) _ (turned here) _ (λ z. some_rejection c.in-Err.field-0 (sym is ∙ z)) c.empty-record.ensures

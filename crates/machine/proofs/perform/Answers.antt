@@ -1,32 +1,42 @@
 -- `machine::perform` meets its contract. Refused as a whole, or performed.
 -- Assumes nothing.
-use mathlib.Core.Path.{refl, sym, ◌∙◌}
+use mathlib.Core.Path.{◌≡◌, refl, sym}
+use Prim.Native.Nat.{◌<◌}
 use native.Mathlib.Omega.{arith}
 use lib.ListN.{length}
+use Rattle.std.specs.Prelude.{Ok, Err}
+use Rattle.refusals.specs.Numbers.{number_of}
+use Rattle.refusals.proofs.Outcomes.{some_number}
 use Rattle.records.specs.View.{view}
-use Rattle.machine.proofs.PerformingList.{refusal_15, refusal_16, enough, refusal-none, refused-list, done-list}
+use Rattle.machine.specs.Performing.{performance, performed_of, answers_in}
+use Rattle.machine.proofs.PerformingList.{passed_list, refused-list, done-list}
 use Rattle.machine.proofs.perform.Goals as goal
+use Rattle.machine.proofs.perform.Goals.{In-Err, After-run}
 
-pub returns-then-not-all_formed : goal.returns-then-not-all_formed
-returns-then-not-all_formed c =
-    let (p, o) = refused-list (view c.args.r) c.args.calls.now c.args.answers.now (record { refusal = 15; «record» = c.args.r }) refl 15
-    (refusal_15 c.args.calls.now (length c.args.answers.now) (sym c.all_formed.ensures ∙ c.if-not-all_formed.true)) (omega arith) refl in
-    record { performed = p; refused = λ z. refl; answers = o }
+pub run-requires : goal.run-requires
+run-requires c = passed_list c.args.calls.now (length c.args.answers.now) (sym c.in-Ok.ensures)
 
-pub returns-then-answers-calls : goal.returns-then-answers-calls
-returns-then-answers-calls c =
-    let (p, o) = refused-list (view c.args.r) c.args.calls.now c.args.answers.now (record { refusal = 16; «record» = c.args.r }) refl 16
-    (refusal_16 c.args.calls.now (length c.args.answers.now) (sym c.all_formed.ensures ∙ c.if-not-all_formed.false) c.if-answers-calls.true) (omega arith) refl in
-    record { performed = p; refused = λ z. refl; answers = o }
+done : (c : After-run) → (performed_of (record { outcome = Ok tt; «record» = c.run.result }) ≡ performance (view c.args.r) c.args.calls.now (length c.args.answers.now))
+    × (c.run.new.answers ≡ answers_in (view c.args.r) c.args.calls.now c.args.answers.now)
+done c =
+    done-list (view c.args.r) c.args.calls.now c.args.answers.now c.run.new.answers (record { outcome = Ok tt; «record» = c.run.result })
+    (sym c.in-Ok.ensures) refl c.run.ensures.state c.run.ensures.answers
 
-pub run-record-requires : goal.run-record-requires
-run-record-requires c =
-    let form = sym c.all_formed.ensures ∙ c.if-not-all_formed.false in
-    (form, enough c.args.calls.now (length c.args.answers.now) form c.if-answers-calls.false)
+pub returns-in-Ok-clause-performed : goal.returns-in-Ok-clause-performed
+returns-in-Ok-clause-performed c = (done (goal.at.returns-in-Ok-clause-performed c).After-run).0
 
-pub returns : goal.returns
-returns c =
-    let form = sym c.all_formed.ensures ∙ c.if-not-all_formed.false in
-    let (p, o) = done-list (view c.args.r) c.args.calls.now c.args.answers.now c.run-record.new.answers (record { refusal = 0; «record» = c.run-record.result })
-    (refusal-none c.args.calls.now (length c.args.answers.now) form c.if-answers-calls.false) refl c.run-record.ensures.state c.run-record.ensures.answers in
-    record { performed = p; refused = λ z. absurd (omega arith); answers = o }
+pub returns-in-Ok-clause-answers : goal.returns-in-Ok-clause-answers
+returns-in-Ok-clause-answers c = (done (goal.at.returns-in-Ok-clause-answers c).After-run).1
+
+turned : (c : In-Err) → (performed_of (record { outcome = Err c.in-Err.refusal; «record» = c.args.r }) ≡ performance (view c.args.r) c.args.calls.now (length c.args.answers.now))
+    × (c.args.answers.now ≡ answers_in (view c.args.r) c.args.calls.now c.args.answers.now)
+turned c =
+    let some : 0 < number_of c.in-Err.refusal = omega (arith, some_number c.in-Err.refusal) in
+    refused-list (view c.args.r) c.args.calls.now c.args.answers.now (record { outcome = Err c.in-Err.refusal; «record» = c.args.r }) refl
+    (number_of c.in-Err.refusal) (sym c.in-Err.ensures) some refl
+
+pub returns-in-Err-clause-performed : goal.returns-in-Err-clause-performed
+returns-in-Err-clause-performed c = (turned (goal.at.returns-in-Err-clause-performed c).In-Err).0
+
+pub returns-in-Err-clause-answers : goal.returns-in-Err-clause-answers
+returns-in-Err-clause-answers c = (turned (goal.at.returns-in-Err-clause-answers c).In-Err).1

@@ -1,42 +1,46 @@
 -- `outages::count` meets its contract: what the check refuses is refused, and otherwise all sets are counted. The scratch is as the check leaves it.
 -- Assumes nothing.
-use mathlib.Core.List.{List}
-use mathlib.Core.Path.{◌≡◌, sym, ◌∙◌}
-use Prim.Native.Nat.{ℕ, ◌≤◌}
-use native.Mathlib.Omega.{arith}
-use lib.ListN.{length}
+use Rattle.std.proofs.Common.{◌≡◌, ◌≤◌, length, refl, sym, ◌∙◌}
+use Rattle.std.proofs.lemmas.Result.{err_from_is_err_and}
+use Rattle.std.specs.Prelude.{Ok, Err}
+use Rattle.quorum.specs.Answer.{said, rejection_of}
 use Rattle.quorum.specs.Limits.{most_stations}
 use Rattle.quorum.specs.Refusal.{refusal}
+use Rattle.quorum.specs.declared.Rejected.{Rejected}
+use Rattle.quorum.specs.declared.Rejected.TheVariants.{Refused, NoCommonMember, Nested}
 use Rattle.quorum.proofs.Promises.{said-refusal, passed_limits}
 use Rattle.outages.proofs.Answering.{refused_is, counted_is}
 use Rattle.outages.proofs.count.Goals as goal
-use Rattle.outages.proofs.count.Goals.{After-check-checked}
+use Rattle.outages.proofs.count.Goals.{In_ok-check}
 
-module _ (c : After-check-checked) where
-  abbrev table : List ℕ
-  table = c.args.quorums.now
+-- what the check accepts it does not refuse
+none : (c : In_ok-check) → 0 ≡ refusal c.args.n c.args.k c.args.quorums.now (length c.args.scratch.now)
+none c = said-refusal c.args.n c.args.k c.args.quorums.now (length c.args.scratch.now) (Ok c.in_ok-check.field-0) c.in_ok-check.ensures.answered
 
-  abbrev room : ℕ
-  room = length c.args.scratch.now
-
-  refused : c.check-checked.result.refusal ≡ refusal c.args.n c.args.k table room
-  refused = said-refusal c.args.n c.args.k table room c.check-checked.result c.check-checked.ensures.answered
-
-  -- where nothing is refused
-  few : c.check-checked.result.refusal ≡ 0 → c.args.n ≤ most_stations
-  few none = (passed_limits c.args.n c.args.k table room (sym refused ∙ none)).stations.1
-
-pub returns-then-refusal-ne-NO_REFUSAL : goal.returns-then-refusal-ne-NO_REFUSAL
-returns-then-refusal-ne-NO_REFUSAL c =
-    record { answered = refused_is c.args.n c.args.k (table (goal.at.returns-then-refusal-ne-NO_REFUSAL c).After-check-checked) (room (goal.at.returns-then-refusal-ne-NO_REFUSAL c).After-check-checked) c.check-checked.result.refusal (refused (goal.at.returns-then-refusal-ne-NO_REFUSAL c).After-check-checked) c.if-refusal-ne-NO_REFUSAL.true; cleaned = c.check-checked.ensures.cleaned }
-
-pub overflow_add-result : goal.overflow_add-result
-overflow_add-result c = record { fits = omega (arith, few (goal.at.overflow_add-result c).After-check-checked c.if-refusal-ne-NO_REFUSAL.false) }
+few : (c : In_ok-check) → c.args.n ≤ most_stations
+few c = (passed_limits c.args.n c.args.k c.args.quorums.now (length c.args.scratch.now) (sym (none c))).stations.1
 
 pub count_sets-requires : goal.count_sets-requires
-count_sets-requires c = few (goal.at.count_sets-requires c).After-check-checked c.if-refusal-ne-NO_REFUSAL.false
+count_sets-requires c = few c
 
 pub returns : goal.returns
 returns c =
-    let none = c.if-refusal-ne-NO_REFUSAL.false in
-    record { answered = counted_is c.args.n c.args.k (table (goal.at.returns c).After-check-checked) (room (goal.at.returns c).After-check-checked) c.check-checked.result.refusal (refused (goal.at.returns c).After-check-checked) none (few (goal.at.returns c).After-check-checked none) c.count_sets.result c.count_sets.ensures; cleaned = c.check-checked.ensures.cleaned }
+    let at = (goal.at.returns c).In_ok-check in
+    record {
+      answered = counted_is c.args.n c.args.k c.args.quorums.now (length c.args.scratch.now) (none at) (few at) c.count_sets.result c.count_sets.ensures;
+      few = few at;
+      cleaned = c.in_ok-check.ensures.cleaned;
+    }
+
+rejected : (r : Rejected) → (said (Err r)).refusal ≡ rejection_of r
+rejected (Refused r) = refl
+rejected (NoCommonMember width even family) = refl
+rejected (Nested width) = refl
+
+pub returns-in_err-check-clause-answered : goal.returns-in_err-check-clause-answered
+returns-in_err-check-clause-answered c =
+    let p = err_from_is_err_and c.from_residual.result c.from_residual.ensures.1 in
+    let r = c.in_err-check.field-0.0 in
+    rw p.1
+    (refused_is c.args.n c.args.k c.args.quorums.now (length c.args.scratch.now) p.0
+    (p.2 ∙ sym (rejected r) ∙ said-refusal c.args.n c.args.k c.args.quorums.now (length c.args.scratch.now) (Err r) c.in_err-check.ensures.answered))

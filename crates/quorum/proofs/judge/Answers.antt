@@ -2,54 +2,26 @@
 -- Assumes nothing.
 use mathlib.Core.Path.{sym, ◌∙◌}
 use native.Mathlib.Omega.{arith}
-use lib.ListN.{length}
-use Rattle.quorum.specs.Answer.{said}
-use Rattle.quorum.proofs.Judging.{width-found, byte_finite, six, seven_or_none}
-use Rattle.quorum.proofs.LimitLaws.{limits_kept}
+use Rattle.quorum.specs.Scratch.{scratch_bytes}
+use Rattle.quorum.proofs.Judging.{six, seven, accepted}
 use Rattle.quorum.proofs.judge.Goals as goal
 
-pub fill-requires : goal.fill-requires
-fill-requires c =
-    let limits = limits_kept c.args.n c.args.k c.args.quorums.now c.requires.0 in
-    (limits.stations.1, limits.quorums.1, c.requires.1)
+pub returns-then-lacks_common : goal.returns-then-lacks_common
+returns-then-lacks_common c =
+    let table = c.args.table.now in
+    six table.stations table.stock table.quorums.now scratch_bytes table.kept (omega arith) c.fill.new.bytes c.fill.ensures
+    c.width-width.result c.width-width.ensures (sym c.lacks_common.ensures ∙ c.if-lacks_common.true)
+    c.first_family-family.result c.first_family-family.ensures c.is_even-even.result c.is_even-even.ensures
 
-pub width_of-width-requires : goal.width_of-width-requires
-width_of-width-requires c =
-    ((limits_kept c.args.n c.args.k c.args.quorums.now c.requires.0).stations.1, omega (arith, c.requires.1, c.fill.auto.scratch))
-
-pub lacks-requires : goal.lacks-requires
-lacks-requires c =
-    (limits_kept c.args.n c.args.k c.args.quorums.now c.requires.0).stock.1
-
-pub first_family-family-requires : goal.first_family-family-requires
-first_family-family-requires c =
-    let fill = c.fill in
-    let limits = limits_kept c.args.n c.args.k c.args.quorums.now c.requires.0 in record {
-      n_nonzero = (limits.stations.0, limits.stations.1, limits.quorums.1, omega (arith, c.requires.1, fill.auto.scratch));
-      needs = fill.ensures.needs;
-      fact = byte_finite c.args.n c.args.k c.args.quorums.now (length c.args.scratch.now) c.requires.0 c.requires.1 fill.new.scratch fill.ensures.needs
-          c.width_of-width.result c.width_of-width.ensures (sym c.lacks.ensures ∙ c.if-lacks.true);
-    }
-
-pub returns-then-lacks : goal.returns-then-lacks
-returns-then-lacks c =
-    let fill = c.fill in record {
-      answered = six c.args.n c.args.k c.args.quorums.now (length c.args.scratch.now) c.requires.0 c.requires.1 fill.new.scratch fill.ensures.needs
-          c.width_of-width.result c.width_of-width.ensures (sym c.lacks.ensures ∙ c.if-lacks.true)
-          c.first_family-family.result c.first_family-family.ensures c.evenness-even.result c.evenness-even.ensures;
-      beyond = fill.ensures.beyond;
-    }
-
-pub answer_nested_or_not-requires : goal.answer_nested_or_not-requires
-answer_nested_or_not-requires c =
-    let fill = c.fill in
-    width-found c.args.n c.args.k c.args.quorums.now (length c.args.scratch.now) c.requires.0 c.requires.1 fill.new.scratch fill.ensures.needs
-    c.width_of-width.result c.width_of-width.ensures
+pub returns-then-is_nested : goal.returns-then-is_nested
+returns-then-is_nested c =
+    let table = c.args.table.now in
+    seven table.stations table.stock table.quorums.now scratch_bytes table.kept (omega arith) c.fill.new.bytes c.fill.ensures
+    c.width-width.result c.width-width.ensures (sym c.lacks_common.ensures ∙ c.if-lacks_common.false) (sym c.is_nested.ensures ∙ c.if-is_nested.true)
 
 pub returns : goal.returns
 returns c =
-    let fill = c.fill in record {
-      answered = seven_or_none c.args.n c.args.k c.args.quorums.now (length c.args.scratch.now) c.requires.0 c.requires.1 fill.new.scratch fill.ensures.needs
-          c.width_of-width.result c.width_of-width.ensures (sym c.lacks.ensures ∙ c.if-lacks.false) (said c.answer_nested_or_not.result) c.answer_nested_or_not.ensures;
-      beyond = fill.ensures.beyond;
-    }
+    let table = c.args.table.now in
+    accepted table.stations table.stock table.quorums.now scratch_bytes table.kept (omega arith) c.fill.new.bytes c.fill.ensures
+    c.width-width.result c.width-width.ensures (sym c.lacks_common.ensures ∙ c.if-lacks_common.false) (sym c.is_nested.ensures ∙ c.if-is_nested.false)
+    c.is_even.result c.is_even.ensures

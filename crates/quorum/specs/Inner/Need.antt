@@ -1,6 +1,7 @@
 -- What a byte of scratch says while the check works: how many quorums it takes to leave no station of a set in common.
-use Rattle.std.specs.Prelude.{cond, List, [], ◌∷◌, ◌≡◌, ℕ, suc, ◌+◌, ◌-◌, ◌^◌, ◌≤◌, ◌<◌, min, eqb, ltb, length, get_or}
+use Rattle.std.specs.Prelude.{cond, not, List, [], ◌∷◌, ◌≡◌, ℕ, suc, ◌+◌, ◌-◌, ◌^◌, ◌≤◌, ◌<◌, min, eqb, ltb, length, get_or}
 use Rattle.std.specs.Int.Bits.{bit_and}
+use Rattle.std.specs.List.{filter}
 use Rattle.stations.specs.Member.{member}
 use Rattle.quorum.specs.Family.{common_within, Numbers}
 
@@ -25,8 +26,7 @@ Needs n table bytes = (s : ℕ) → s < 2 ^ n → Need table s (get_or bytes s 0
 
 -- the quorums that station i does not belong to
 abbrev pub without : ℕ → List ℕ → List ℕ
-without i [] = []
-without i (q ∷ table) = cond (member q i) (without i table) (q ∷ without i table)
+without i table = filter (λ q. not (member q i)) table
 
 -- the least byte among the sets that one more quorum leaves of s, or b
 abbrev pub least_byte : List ℕ → ℕ → ℕ → List ℕ → ℕ

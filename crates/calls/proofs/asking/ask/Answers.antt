@@ -1,28 +1,28 @@
--- `calls::asking::ask` meets its contract. 14 where the lane would pass its limit; otherwise lane and station are stored at once.
+-- `calls::asking::ask` meets its contract. 14 where the lane would pass its limit; otherwise lane and station are stored.
 -- Assumes nothing.
 use mathlib.Core.Path.{sym, ap, ◌∙◌}
 use native.Mathlib.Omega.{arith}
-use Rattle.lists.specs.At.{at2}
-use Rattle.records.specs.View.{lanes_of}
-use Rattle.records.proofs.Good.{stations_of}
-use Rattle.calls.proofs.AskingMember.{lane-asked, asked-goes}
+use Rattle.plain.specs.Answer.{Returned, refused, done}
+use Rattle.records.specs.View.{view}
+use Rattle.records.proofs.Storing.{store_phase, store_up}
+use Rattle.plain.specs.declared.Phase.TheVariants.{Collecting}
+use Rattle.calls.proofs.AskingMember.{asked_full, asked-goes}
+use Rattle.calls.proofs.Returning.{above_besides}
+use Rattle.calls.proofs.SendingMessage.{had_room, no_room}
 use Rattle.calls.proofs.asking.ask.Goals as goal
 
-pub returns-then-lane-ge-UP_PLACES : goal.returns-then-lane-ge-UP_PLACES
-returns-then-lane-ge-UP_PLACES c =
-    record {
-      answer = c.asked.ensures.answer
-          ∙ sym (lane-asked c.args.r c.args.s c.args.quorum c.args.units c.args.member c.args.above c.lane_at-lane.result (c.lane_at-lane.ensures c.args.r.n c.requires.1 c.requires.2) c.if-lane-ge-UP_PLACES.true);
-      refused = λ z. c.asked.ensures.same.1;
-    }
+pub returns-in-Err-clause-answer : goal.returns-in-Err-clause-answer
+returns-in-Err-clause-answer c =
+    let x = c.in-Err.refusal in
+    let w = c.args.wish in
+    let (full, number) = no_room _ x (c.in-Err.ensures.refusal c.args.r.now.n c.requires.1 c.requires.2) in
+    rw c.in-Err.ensures.refused (ap (refused (view c.args.r.now)) number ∙ sym (asked_full c.args.r.now c.args.s w.quorum w.units w.member w.above full))
 
-pub returns : goal.returns
-returns c =
-    let r = c.args.r in
-    let long = stations_of r _ c.well_formed.0 in
-    let put = c.with_lane-next.ensures r.n c.requires.1 c.requires.2 ∙ ap (at2 (lanes_of r.n r.up) c.args.s c.args.member) c.put.ensures in record {
-      answer = c.asked-2.ensures.answer
-          ∙ sym (asked-goes r c.args.s c.args.quorum c.args.units c.args.member c.args.above c.lane_at-lane.result (c.lane_at-lane.ensures r.n c.requires.1 c.requires.2)
-          c.with_lane-next.result put c.requires.1 (omega arith) c.if-lane-ge-UP_PLACES.false);
-      refused = λ z. absurd (omega (arith, c.asked-2.ensures.same.0));
-    }
+pub returns-clause-answer : goal.returns-clause-answer
+returns-clause-answer c =
+    let r = c.args.r.now in
+    let w = c.args.wish in
+    let lanes = c.put_between.new.all in
+    let room = had_room _ (c.in-Ok.ensures.refusal r.n c.requires.1 c.requires.2) in
+    ap (λ (x : Returned). done x (view (store_phase c.args.s (Collecting w.quorum w.units w.member) (store_up lanes r)))) (above_besides c.nothing.result c.nothing.ensures w.above)
+    ∙ sym (asked-goes r c.args.s w.quorum w.units w.member w.above lanes room c.requires.1 (omega arith) (c.in-Ok.ensures.lanes r.n c.requires.1 c.requires.2))

@@ -1,51 +1,18 @@
--- `calls::downs::granted` meets its contract. One case for each phase; a GRANT from another arbiter than the one approached is dropped.
+-- `calls::downs::granted` meets its contract. A GRANT from another arbiter than the one approached is dropped, and by a station that does not collect.
 -- Assumes nothing.
-use mathlib.Core.Path.{◌≡◌, refl, sym, ◌∙◌}
-use Prim.Native.Nat.{ℕ, ◌<◌, ◌^◌}
-use native.Mathlib.Omega.{arith}
-use lib.ListN.{get_or}
-use Rattle.lists.specs.Cut.{cut}
-use Rattle.lists.proofs.Cuts.{length_cut, get_or-cut}
-use Rattle.quorum.specs.Family.{quorum}
-use Rattle.calls.proofs.GoingOnward.{taken-idle, taken-holding, taken-withdrawing, taken_elsewhere, taken_here}
+use mathlib.Core.Path.{refl, sym, ◌∙◌}
+use Rattle.calls.proofs.GoingOnward.{taken-nothing, taken_elsewhere, taken_here}
 use Rattle.calls.proofs.downs.granted.Goals as goal
-use Rattle.calls.proofs.downs.granted.Goals.{Else-member-j, Start}
 
-pub returns-then-member-j : goal.returns-then-member-j
-returns-then-member-j c = record { taking = sym (taken_elsewhere _ _ c.in-Collecting.is c.if-member-j.true); within = refl }
+pub bounds-table-quorum : goal.bounds-table-quorum
+bounds-table-quorum c = (c.requires.1 _ _ _ c.in-Collecting.is).0
 
--- the quorum of a station that collects
-module _ (c : Else-member-j) where
-  abbrev start : Start
-  start = c.before.before
+pub returns-else-member-j-clause-taking : goal.returns-else-member-j-clause-taking
+returns-else-member-j-clause-taking c =
+    c.onward.ensures.taking c.args.table.now refl ∙ sym (taken_here c.args.table.now c.args.j c.in-Collecting.is c.if-member-j.false)
 
-  abbrev number : ℕ
-  number = c.in-Collecting.quorum
+pub returns-then-member-j-clause-taking : goal.returns-then-member-j-clause-taking
+returns-then-member-j-clause-taking c = sym (taken_elsewhere c.args.table.now c.args.j c.in-Collecting.is c.if-member-j.true)
 
-  exists : number < start.args.quorums
-  exists = omega (arith, (start.requires.2 _ _ _ c.in-Collecting.is).0, length_cut 0 start.args.quorums start.args.table)
-
-  set : quorum (cut 0 start.args.quorums start.args.table) number ≡ get_or start.args.table number 0
-  set = get_or-cut 0 start.args.quorums start.args.table number exists
-
-  small : get_or start.args.table number 0 < 2 ^ start.args.n
-  small = rw set at (start.requires.2 _ _ _ c.in-Collecting.is).1
-
-pub bounds-table-at : goal.bounds-table-at
-bounds-table-at c = omega (arith, (c.requires.2 _ _ _ c.in-Collecting.is).0, length_cut 0 c.args.quorums c.args.table)
-
-pub onward-requires : goal.onward-requires
-onward-requires c = (small (goal.at.onward-requires c).Else-member-j, (start (goal.at.onward-requires c).Else-member-j).requires.0)
-
-pub returns-in-Idle : goal.returns-in-Idle
-returns-in-Idle c = record { taking = sym (taken-idle _ _ c.in-Idle.is); within = refl }
-
-pub returns-else-member-j : goal.returns-else-member-j
-returns-else-member-j c =
-    record { taking = c.onward.ensures.taking _ (set (goal.at.returns-else-member-j c).Else-member-j) ∙ sym (taken_here _ _ c.in-Collecting.is c.if-member-j.false); within = c.onward.ensures.within _ (set (goal.at.returns-else-member-j c).Else-member-j) }
-
-pub returns-in-Holding : goal.returns-in-Holding
-returns-in-Holding c = record { taking = sym (taken-holding _ _ c.in-Holding.is); within = refl }
-
-pub returns-in-Withdrawing : goal.returns-in-Withdrawing
-returns-in-Withdrawing c = record { taking = sym (taken-withdrawing _ _ c.in-Withdrawing.is); within = refl }
+pub returns-in_default : goal.returns-in_default
+returns-in_default c = record { taking = sym (taken-nothing c.args.table.now c.args.j c.args.p c.in_default.not-Collecting); within = refl }

@@ -1,42 +1,39 @@
--- `calls::releases::give_back` meets its contract. RELEASE goes up to all members, and the lanes are stored.
+-- `calls::releases::give_back` meets its contract. 19, 8 and 12 in their order; then RELEASE goes up to all members, and the lanes are stored.
 -- Assumes nothing.
-use mathlib.Core.Path.{◌∙◌}
-use Prim.Native.Nat.{◌^◌, ◌<◌}
-use native.Mathlib.Omega.{arith}
-use lib.ListN.{get_or}
-use Rattle.lists.proofs.Cuts.{length_cut}
+use mathlib.Core.Path.{refl, sym, ap, ◌∙◌}
+use Rattle.refusals.proofs.Outcomes.{some_number}
+use Rattle.plain.specs.Answer.{Returned, left_only, refused, done}
 use Rattle.records.specs.View.{view}
-use Rattle.records.proofs.Viewing.{quorum-at}
-use Rattle.calls.proofs.GivingBack.{exists, gives_back}
-use Rattle.calls.proofs.RecordInRange.{few, limits}
+use Rattle.calls.proofs.GivingBack.{holds-nothing, held-number, held-set, full_back, goes_back}
+use Rattle.calls.proofs.Returning.{left_besides}
+use Rattle.calls.proofs.SendingMessage.{had_room, no_room}
+use Rattle.calls.proofs.StationTests.{release_turned}
 use Rattle.calls.proofs.releases.give_back.Goals as goal
 
-pub release_row-released-requires : goal.release_row-released-requires
-release_row-released-requires c =
-    let r = c.args.r in
-    let range = c.requires.0.range in
-    let number = exists r c.args.s c.args.quorum c.args.units c.requires.0 in
-    let small : get_or r.table c.args.quorum 0 < 2 ^ r.n = rw (quorum-at r c.args.quorum number) at ((limits r range).members c.args.quorum (omega (arith, number, length_cut 0 r.quorums r.table))).1 in
-    (few r range, small)
+pub returns-in-Err-clause-answer : goal.returns-in-Err-clause-answer
+returns-in-Err-clause-answer c =
+    (sym (release_turned (view c.args.r.now) c.args.s c.in-Err.ensures.refusal (some_number c.in-Err.refusal)))
 
-pub send_row-requires : goal.send_row-requires
-unfolding view
-send_row-requires c =
-    (few c.args.r c.requires.0.range, c.requires.0.station)
+pub returns-in_default : goal.returns-in_default
+returns-in_default c = record { answer = sym (holds-nothing c.args.r.now c.args.s c.in-Ok.ensures.passed c.in_default.not-Holding); refused = refl }
 
-pub returns : goal.returns
-returns c =
-    let x = c.args in
-    record { answer = c.send_row.ensures.answer ∙ gives_back x.r x.s x.quorum x.units c.requires.0 _ _ c.release_row-released.ensures.full c.release_row-released.ensures.row; refused = c.send_row.ensures.refused }
+pub bounds-r-quorum : goal.bounds-r-quorum
+bounds-r-quorum c = held-number c.args.r.now c.args.s c.in-Ok.ensures.passed _ _ c.in-Holding.is
 
-pub offset_bounds-up-s : goal.offset_bounds-up-s
-offset_bounds-up-s c = omega arith
+pub release_row-requires : goal.release_row-requires
+release_row-requires c =
+    let stands = c.in-Ok.ensures.passed in
+    (stands.few, held-set c.args.r.now c.args.s stands _ _ c.in-Holding.is)
 
-pub bounds-up-s : goal.bounds-up-s
-bounds-up-s c = omega arith
+pub returns-in-Err-release_row-clause-answer : goal.returns-in-Err-release_row-clause-answer
+returns-in-Err-release_row-clause-answer c =
+    let x = c.in-Err-release_row.refusal in
+    let (full, number) = no_room _ x c.in-Err-release_row.ensures.refusal in
+    (ap (refused (view c.args.r.now)) number ∙ sym (full_back c.args.r.now c.args.s c.in-Ok.ensures.passed _ _ c.in-Holding.is full))
 
-pub offset_bounds-r-at : goal.offset_bounds-r-at
-offset_bounds-r-at c = omega arith
-
-pub bounds-r-at : goal.bounds-r-at
-bounds-r-at c = omega arith
+pub returns-clause-answer : goal.returns-clause-answer
+returns-clause-answer c =
+    let units = c.in-Holding.units in
+    ap (λ (x : Returned). done x (view c.send_row.new.r)) (left_besides c.nothing.result c.nothing.ensures units)
+    ∙ ap (done (left_only units)) c.send_row.ensures
+    ∙ sym (goes_back c.args.r.now c.args.s c.in-Ok.ensures.passed _ _ c.in-Holding.is c.release_row.new.w (had_room _ c.in-Ok-release_row.ensures.refusal) c.in-Ok-release_row.ensures.row)

@@ -2,7 +2,6 @@
 -- Assumes nothing.
 use mathlib.Core.Bool.{false}
 use mathlib.Core.Path.{◌≡◌}
-use Prim.Native.Nat.{◌≤◌, ◌-◌}
 use Rattle.lists.specs.Search.{some_below}
 use Rattle.plain.specs.Release.{release_passes}
 use Rattle.records.specs.View.{row_of}
@@ -10,7 +9,4 @@ use Rattle.calls.proofs.ReleasingRow.{released-below}
 use Rattle.calls.proofs.releases.release_row.Given as goal
 
 abbrev pub invariant-loop-j : goal.invariant-loop-j
-invariant-loop-j l = (l.j ≤ l.n) × (row_of l.n l.next ≡ released-below l.set (row_of l.n l.initial.next) l.j) × (some_below (release_passes l.set (row_of l.n l.initial.next)) l.j ≡ false)
-
-abbrev pub decreases-loop-j : goal.decreases-loop-j
-decreases-loop-j l = l.n - l.j
+invariant-loop-j l = (row_of l.n l.w ≡ released-below l.set (row_of l.n l.fn.w) l.j) × (some_below (release_passes l.set (row_of l.n l.fn.w)) l.j ≡ false)

@@ -1,142 +1,111 @@
--- `calls::sending::send` meets its contract. First GONE, if it is sent; then the lanes are those in which the entries before the one in hand were granted; none
--- passes its limit.
+-- `calls::sending::send` meets its contract. First GONE, if it is sent; then the lanes are those in which the entries before the one in hand were
+-- granted; none passed its limit.
 -- Assumes nothing.
-use mathlib.Core.Bool.{true≢false}
 use mathlib.Core.List.{List}
 use mathlib.Core.Path.{◌≡◌, sym, ap, ◌∙◌}
-use Prim.Native.Nat.{ℕ, ◌≤◌, ◌<◌, ◌+◌}
+use Prim.Native.Nat.{ℕ, ◌+◌, ◌≤◌, ◌<◌}
 use native.Mathlib.Omega.{arith}
-use lib.ListN.{length, get_or}
-use borrow.Author.Rules.{rules}
 use borrow.Author.Tests.{le-ltb}
+use lib.ListN.{length, get_or}
 use Rattle.lists.specs.At.{at2}
 use Rattle.lists.specs.Cut.{cut}
 use Rattle.lists.proofs.Searches.{some_empty}
-use Rattle.plain.specs.Lanes.{sent, down_places, passes}
+use Rattle.plain.specs.Lanes.{down_places, passes, sent}
 use Rattle.plain.specs.Up.{replying, granting}
 use Rattle.plain.specs.declared.Message.{Message}
 use Rattle.plain.specs.declared.Message.TheVariants.{Grant, Gone}
-use Rattle.records.specs.View.{no_entry, lanes_of, lane_of}
-use Rattle.records.proofs.Viewing.{lane-length}
+use Rattle.records.specs.View.{no_entry, lanes_of}
 use Rattle.calls.proofs.ReplyingGone.{with_gone, reply_gone, reply_none, gone_room, gone_passes}
-use Rattle.calls.proofs.SendingGrants.{granted_before, before_first, before_next, still_room, would_pass}
+use Rattle.calls.proofs.SendingGrants.{granted_before, before_first, before_next, still_room, would_pass, whole}
+use Rattle.calls.proofs.SendingMessage.{had_room, no_room, full_length, room_length}
 use Rattle.calls.proofs.sending.send.Goals as goal
-use Rattle.calls.proofs.sending.send.Goals.{else-is_withdrawal, then-is_withdrawal+else-own-ge-DOWN_PLACES, After-lane_at-lane, In-loop-i, Joined-is_withdrawal, Start}
+use Rattle.calls.proofs.sending.send.Goals.{else-is_withdrawal, then-is_withdrawal+in-Ok, Joined-is_withdrawal, After-loop-entry}
 
 -- ---- GONE
 
-pub lane_at-own-requires : goal.lane_at-own-requires
-lane_at-own-requires c = let p = c.requires in (omega (arith, p.station, p.few), omega (arith, p.arbiter, p.few))
-
-pub with_lane-next-requires : goal.with_lane-next-requires
-with_lane-next-requires c = let p = c.requires in (omega (arith, p.station, p.few), omega (arith, p.arbiter, p.few))
-
 -- the lane of the sender has no room
-pub returns-then-own-ge-DOWN_PLACES : goal.returns-then-own-ge-DOWN_PLACES
-returns-then-own-ge-DOWN_PLACES c =
+pub returns-in-Err-clause-refusal : goal.returns-in-Err-clause-refusal
+returns-in-Err-clause-refusal c =
     let x = c.args in
-    let before = lanes_of x.n x.down in
-    let len = ap length (c.lane_at-own.ensures x.n c.requires.station c.requires.arbiter) ∙ lane-length c.lane_at-own.result in record {
-      full = sym (rw (reply_gone before x.s x.j x.m (sym c.is_withdrawal.ensures ∙ c.if-is_withdrawal.true))
-          (gone_passes before x.s x.j x.n (cut no_entry x.grants x.line) c.requires.station (omega (arith, len))));
-      lanes = λ z. absurd (true≢false z);
-    }
+    let p = c.requires in
+    let lanes = lanes_of x.n x.down.now in
+    let (full, number) = no_room _ c.in-Err.refusal (c.in-Err.ensures.refusal x.n p.station p.arbiter) in
+    rw (reply_gone lanes x.s x.j x.m (sym c.is_withdrawal.ensures ∙ c.if-is_withdrawal.true), gone_passes lanes x.s x.j x.n x.grants.now p.station (full_length down_places (lanes x.s x.j) Gone full)) number
 
 -- GONE is in it, if it is sent, and all lanes from j keep their limit
 module _ (c : Joined-is_withdrawal) where
-  abbrev start : Start
-  start = c.before.before
-
   abbrev before : ℕ → ℕ → List Message
-  before = lanes_of start.args.n start.args.down
+  before = lanes_of c.args.n c.args.down.now
 
   abbrev lanes : ℕ → ℕ → List Message
-  lanes = lanes_of start.args.n c.if-is_withdrawal.next
+  lanes = lanes_of c.args.n c.if-is_withdrawal.down
 
-  told : (lanes ≡ replying start.args.m before start.args.s start.args.j) × ((t : ℕ) → t < start.args.n → length (lanes t start.args.j) ≤ down_places)
+  told : (lanes ≡ replying c.args.m before c.args.s c.args.j) × ((t : ℕ) → t < c.args.n → length (lanes t c.args.j) ≤ down_places)
   told =
-      let x = start.args in
-      let p = start.requires in
+      let x = c.args in
+      let p = c.requires in
       elim c.if-is_withdrawal.branch [
-        | then-is_withdrawal+else-own-ge-DOWN_PLACES w ↦
-            let own = w.lane_at-own.ensures x.n p.station p.arbiter in
-            let len = ap length own ∙ lane-length w.lane_at-own.result in
-            let gone : lanes ≡ with_gone before x.s x.j =
-            ap (lanes_of x.n) w.next-is
-            ∙ w.with_lane-next.ensures x.n p.station p.arbiter
-            ∙ ap (at2 before x.s x.j) (w.put.ensures ∙ ap (λ (l : List Message). sent l Gone) (sym own)) in
-            (gone ∙ sym (reply_gone before x.s x.j x.m (sym c.is_withdrawal.ensures ∙ w.if-is_withdrawal.true)), rw gone (gone_room before x.s x.j x.n p.room (omega (arith, len))))
+        | then-is_withdrawal+in-Ok w ↦
+            let gone : lanes ≡ with_gone before x.s x.j = ap (lanes_of x.n) w.down-is ∙ w.in-Ok.ensures.lanes x.n p.station p.arbiter in
+            let room = room_length down_places (before x.s x.j) Gone (had_room _ (w.in-Ok.ensures.refusal x.n p.station p.arbiter)) in
+            (gone ∙ sym (reply_gone before x.s x.j x.m (sym c.is_withdrawal.ensures ∙ w.if-is_withdrawal.true)), rw gone (gone_room before x.s x.j x.n p.room room))
         | else-is_withdrawal w ↦
-            let same : lanes ≡ before = ap (lanes_of x.n) w.next-is in
+            let same : lanes ≡ before = ap (lanes_of x.n) w.down-is in
             (same ∙ sym (reply_none before x.s x.j x.m (sym c.is_withdrawal.ensures ∙ w.if-is_withdrawal.false)), rw same p.room)
       ]
 
 -- ---- the grants
 
-pub loop-i-init : goal.loop-i-init
-loop-i-init c =
-    let e = before_first (lanes (goal.at.loop-i-init c).Joined-is_withdrawal) (start (goal.at.loop-i-init c).Joined-is_withdrawal).args.j (start (goal.at.loop-i-init c).Joined-is_withdrawal).args.line in
-    (search rules, sym e, λ t h. rw e ((told (goal.at.loop-i-init c).Joined-is_withdrawal).1 t h))
+pub loop-entry-init : goal.loop-entry-init
+loop-entry-init c =
+    let here = (goal.at.loop-entry-init c).Joined-is_withdrawal in
+    let e = before_first (lanes here) c.args.j c.args.grants.now in
+    (sym e, λ t h. rw e ((told here).1 t h))
 
-pub lane_at-lane-requires : goal.lane_at-lane-requires
-lane_at-lane-requires c =
-    omega (arith, c.requires.named c.loop-i.i (omega arith))
+pub returns-in-Err-put_between-clause-refusal : goal.returns-in-Err-put_between-clause-refusal
+returns-in-Err-put_between-clause-refusal c =
+    let here = (goal.at.returns-in-Err-put_between-clause-refusal c).Joined-is_withdrawal in
+    let x = c.args in
+    let i = c.loop-entry.entry-index in
+    let grants = x.grants.now in
+    let named = c.requires.named i c.loop-entry-test.true in
+    let station = (get_or grants i no_entry).station in
+    let (full, number) = no_room _ c.in-Err-put_between.refusal (c.in-Err-put_between.ensures.refusal x.n named c.requires.arbiter) in
+    let long = full_length down_places (lanes_of x.n c.loop-entry.down station x.j) Grant full in
+    let passing = would_pass (lanes here) x.j grants i x.n (length grants) c.loop-entry-test.true named (rw c.loop-entry.invariant.0 at long) in
+    rw (sym (told here).0, rw (whole no_entry grants) at passing) number
 
-module _ (c : After-lane_at-lane) where
-  abbrev turn : In-loop-i
-  turn = c.before.before.before
+pub loop-entry-preserved : goal.loop-entry-preserved
+loop-entry-preserved c =
+    let here = (goal.at.loop-entry-preserved c).Joined-is_withdrawal in
+    let x = c.args in
+    let i = c.loop-entry.entry-index in
+    let grants = x.grants.now in
+    let named = c.requires.named i c.loop-entry-test.true in
+    let station = (get_or grants i no_entry).station in
+    let so_far = granted_before (lanes here) x.j grants i in
+    let put : lanes_of x.n c.put_between-in-loop-entry.new.all ≡ granted_before (lanes here) x.j grants (i + 1) =
+    c.in-Ok-put_between.ensures.lanes x.n named c.requires.arbiter
+    ∙ ap (λ (f : ℕ → ℕ → List Message). at2 f station x.j (sent (f station x.j) Grant)) c.loop-entry.invariant.0
+    ∙ sym (before_next (lanes here) x.j grants i) in
+    let room = room_length down_places (lanes_of x.n c.loop-entry.down station x.j) Grant (had_room _ (c.in-Ok-put_between.ensures.refusal x.n named c.requires.arbiter)) in
+    (put, still_room (lanes here) x.j grants i x.n c.loop-entry.invariant.1 (rw c.loop-entry.invariant.0 at room))
 
-  abbrev joined : Joined-is_withdrawal
-  joined = turn.before.before
+-- all have been granted
+all : (c : After-loop-entry) → cut no_entry c.loop-entry.entry-index c.args.grants.now ≡ c.args.grants.now
+all c =
+    let e : c.loop-entry.entry-index ≡ length c.args.grants.now = omega arith in
+    ap (λ (i : ℕ). cut no_entry i c.args.grants.now) e ∙ whole no_entry c.args.grants.now
 
-  abbrev args : Start
-  args = start joined
+pub returns-clause-refusal : goal.returns-clause-refusal
+returns-clause-refusal c =
+    let here = (goal.at.returns-clause-refusal c).Joined-is_withdrawal in
+    let x = c.args in
+    let room = some_empty (λ t. passes down_places (granting (lanes here) x.j x.grants.now t x.j)) x.n (λ t h. le-ltb _ _ (rw (all c) at (c.loop-entry.invariant.1 t h))) in
+    rw (sym (told here).0, room)
 
-  abbrev station : ℕ
-  station = (get_or args.args.line turn.loop-i.i no_entry).station
-
-  named : station < args.args.n
-  named = args.requires.named turn.loop-i.i (omega arith)
-
-  -- the lane of the entry in hand
-  lane : granted_before (lanes joined) args.args.j args.args.line turn.loop-i.i station args.args.j ≡ lane_of c.lane_at-lane.result
-  lane =
-      ap (λ (f : ℕ → ℕ → List Message). f station args.args.j) (sym turn.loop-i.invariant.1)
-      ∙ c.lane_at-lane.ensures args.args.n named args.requires.arbiter
-
-  lane_len : length (granted_before (lanes joined) args.args.j args.args.line turn.loop-i.i station args.args.j) ≡ c.lane_at-lane.result.len
-  lane_len = ap length lane ∙ lane-length c.lane_at-lane.result
-
-pub returns-then-lane-ge-DOWN_PLACES : goal.returns-then-lane-ge-DOWN_PLACES
-returns-then-lane-ge-DOWN_PLACES c =
-    let st = args (goal.at.returns-then-lane-ge-DOWN_PLACES c).After-lane_at-lane in
-    let i = (turn (goal.at.returns-then-lane-ge-DOWN_PLACES c).After-lane_at-lane).loop-i.i in record {
-      full = sym (rw (sym (told (joined (goal.at.returns-then-lane-ge-DOWN_PLACES c).After-lane_at-lane)).0)
-          (would_pass (lanes (joined (goal.at.returns-then-lane-ge-DOWN_PLACES c).After-lane_at-lane)) st.args.j st.args.line i st.args.n st.args.grants (omega arith) (named (goal.at.returns-then-lane-ge-DOWN_PLACES c).After-lane_at-lane) (omega (arith, lane_len (goal.at.returns-then-lane-ge-DOWN_PLACES c).After-lane_at-lane))));
-      lanes = λ z. absurd (true≢false z);
-    }
-
-pub with_lane-next-requires-in-loop-i : goal.with_lane-next-requires-in-loop-i
-with_lane-next-requires-in-loop-i c =
-    omega (arith, c.requires.named c.loop-i.i (omega arith))
-
-pub loop-i-preserved : goal.loop-i-preserved
-loop-i-preserved c =
-    let st = args (goal.at.loop-i-preserved c).After-lane_at-lane in
-    let i = (turn (goal.at.loop-i-preserved c).After-lane_at-lane).loop-i.i in
-    let so_far = granted_before (lanes (joined (goal.at.loop-i-preserved c).After-lane_at-lane)) st.args.j st.args.line i in
-    let put : lanes_of st.args.n c.with_lane-next-in-loop-i.result ≡ granted_before (lanes (joined (goal.at.loop-i-preserved c).After-lane_at-lane)) st.args.j st.args.line (i + 1) =
-    c.with_lane-next-in-loop-i.ensures st.args.n (named (goal.at.loop-i-preserved c).After-lane_at-lane) st.requires.arbiter
-    ∙ ap (λ (f : ℕ → ℕ → List Message). at2 f (station (goal.at.loop-i-preserved c).After-lane_at-lane) st.args.j (lane_of c.put-in-loop-i.result)) (turn (goal.at.loop-i-preserved c).After-lane_at-lane).loop-i.invariant.1
-    ∙ ap (at2 so_far (station (goal.at.loop-i-preserved c).After-lane_at-lane) st.args.j) (c.put-in-loop-i.ensures ∙ ap (λ (l : List Message). sent l Grant) (sym (lane (goal.at.loop-i-preserved c).After-lane_at-lane)))
-    ∙ sym (before_next (lanes (joined (goal.at.loop-i-preserved c).After-lane_at-lane)) st.args.j st.args.line i) in (
-      search rules,
-      put,
-      still_room (lanes (joined (goal.at.loop-i-preserved c).After-lane_at-lane)) st.args.j st.args.line i st.args.n (turn (goal.at.loop-i-preserved c).After-lane_at-lane).loop-i.invariant.2 (omega (arith, lane_len (goal.at.loop-i-preserved c).After-lane_at-lane)),
-    )
-
-pub returns : goal.returns
-returns c =
-    let st = start (goal.at.returns c).Joined-is_withdrawal in
-    let e : c.loop-i.i ≡ st.args.grants = omega arith in
-    let all = cut no_entry st.args.grants st.args.line in record { full = rw (sym (told (goal.at.returns c).Joined-is_withdrawal).0) (sym (some_empty (λ t. passes down_places (granting (lanes (goal.at.returns c).Joined-is_withdrawal) st.args.j all t st.args.j)) st.args.n (λ t h. le-ltb _ _ (rw e at (c.loop-i.invariant.2 t h))))); lanes = λ z. rw (sym (told (goal.at.returns c).Joined-is_withdrawal).0) (c.loop-i.invariant.1 ∙ ap (λ (x : ℕ). granting (lanes (goal.at.returns c).Joined-is_withdrawal) st.args.j (cut no_entry x st.args.line)) e) }
+pub returns-clause-lanes : goal.returns-clause-lanes
+returns-clause-lanes c =
+    let here = (goal.at.returns-clause-lanes c).Joined-is_withdrawal in
+    let x = c.args in
+    c.loop-entry.invariant.0 ∙ ap (granting (lanes here) x.j) (all c) ∙ ap (λ (f : ℕ → ℕ → List Message). granting f x.j x.grants.now) (told here).0

@@ -1,37 +1,37 @@
--- `calls::withdrawals::give_up` meets its contract. RELEASE and WITHDRAW go up, and the lanes are stored.
+-- `calls::withdrawals::give_up` meets its contract. 19, 8 and 20 in their order; then RELEASE and WITHDRAW go up, and the lanes are stored.
 -- Assumes nothing.
-use mathlib.Core.Path.{◌∙◌}
-use native.Mathlib.Omega.{arith}
+use mathlib.Core.Path.{refl, sym, ap, ◌∙◌}
+use Rattle.refusals.proofs.Outcomes.{some_number}
+use Rattle.plain.specs.Answer.{Returned, nothing, refused, done}
 use Rattle.records.specs.View.{view}
-use Rattle.calls.proofs.GivingUp.{small, approached, gives_up}
-use Rattle.calls.proofs.RecordInRange.{few}
+use Rattle.calls.proofs.GivingUp.{collects-nothing, wished-number, wished-set, approached, full_up, goes_up}
+use Rattle.calls.proofs.SendingMessage.{had_room, no_room}
+use Rattle.calls.proofs.StationTests.{withdraw_turned}
 use Rattle.calls.proofs.withdrawals.give_up.Goals as goal
 
-pub withdraw_row-released-requires : goal.withdraw_row-released-requires
-withdraw_row-released-requires c =
-    let a = c.args in
-    let leaves = c.requires.0 in
-    (few a.r leaves.withdraws.range, small a.r a.s a.quorum a.member leaves, approached a.r a.s a.quorum a.member leaves)
+pub returns-in-Err-clause-answer : goal.returns-in-Err-clause-answer
+returns-in-Err-clause-answer c =
+    (sym (withdraw_turned (view c.args.r.now) c.args.s c.in-Err.ensures.refusal (some_number c.in-Err.refusal)))
 
-pub send_row-requires : goal.send_row-requires
-unfolding view
-send_row-requires c =
-    let w = c.requires.0.withdraws in
-    (few c.args.r w.range, w.station)
+pub returns-in_default : goal.returns-in_default
+returns-in_default c = record { answer = sym (collects-nothing c.args.r.now c.args.s c.in-Ok.ensures.passed c.in_default.not-Collecting); refused = refl }
 
-pub returns : goal.returns
-returns c =
-    let x = c.args in
-    record { answer = rw c.no_units.ensures at c.send_row.ensures.answer ∙ gives_up x.r x.s x.quorum x.member c.requires.0 _ _ c.withdraw_row-released.ensures.full c.withdraw_row-released.ensures.row; refused = c.send_row.ensures.refused }
+pub bounds-r-quorum : goal.bounds-r-quorum
+bounds-r-quorum c = wished-number c.args.r.now c.args.s c.in-Ok.ensures.passed _ _ _ c.in-Collecting.is
 
-pub offset_bounds-up-s : goal.offset_bounds-up-s
-offset_bounds-up-s c = omega arith
+pub withdraw_row-requires : goal.withdraw_row-requires
+withdraw_row-requires c =
+    let stands = c.in-Ok.ensures.passed in
+    (stands.few, wished-set c.args.r.now c.args.s stands _ _ _ c.in-Collecting.is, approached c.args.r.now c.args.s stands _ _ _ c.in-Collecting.is)
 
-pub bounds-up-s : goal.bounds-up-s
-bounds-up-s c = omega arith
+pub returns-in-Err-withdraw_row-clause-answer : goal.returns-in-Err-withdraw_row-clause-answer
+returns-in-Err-withdraw_row-clause-answer c =
+    let x = c.in-Err-withdraw_row.refusal in
+    let (full, number) = no_room _ x c.in-Err-withdraw_row.ensures.refusal in
+    (ap (refused (view c.args.r.now)) number ∙ sym (full_up c.args.r.now c.args.s c.in-Ok.ensures.passed _ _ _ c.in-Collecting.is full))
 
-pub offset_bounds-r-at : goal.offset_bounds-r-at
-offset_bounds-r-at c = omega arith
-
-pub bounds-r-at : goal.bounds-r-at
-bounds-r-at c = omega arith
+pub returns-clause-answer : goal.returns-clause-answer
+returns-clause-answer c =
+    ap (λ (x : Returned). done x (view c.send_row.new.r)) c.nothing.ensures
+    ∙ ap (done nothing) c.send_row.ensures
+    ∙ sym (goes_up c.args.r.now c.args.s c.in-Ok.ensures.passed _ _ _ c.in-Collecting.is c.withdraw_row.new.w (had_room _ c.in-Ok-withdraw_row.ensures.refusal) c.in-Ok-withdraw_row.ensures.row)
