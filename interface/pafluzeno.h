@@ -25,7 +25,7 @@ extern "C" {
 #define PAFLUZENO_NO_MEMBER 16 /* what stands for a member where there is none */
 #define PAFLUZENO_PAGE_ROOM 196617 /* the bytes of a buffer that is long enough for every page of the journal */
 
-/* So many bytes of stack are enough for every call. Measured (stack.c), not proved: pafluzeno_page takes 74,784 bytes, every other call 896 or less.
+/* So many bytes of stack are enough for every call. Measured (stack.c), not proved: pafluzeno_page takes 54,784 bytes, every other call 560 or less.
  * The rest is for memcpy and memset, for the loader, which may run on the caller's stack when they are first used, and for a compiler that lays the
  * calls out otherwise. The program `journal`, which has its buffers on the stack, takes 340 KiB. */
 #define PAFLUZENO_STACK_BYTES 81920
