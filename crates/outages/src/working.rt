@@ -7,7 +7,11 @@ ghost use Rattle.outages.specs.Outages.{works as works_for};
 pub(crate) fn works(quorums: &[u16], set: u16) -> bool
     ensures { result ≡ works_for quorums.now set }
 {
-    quorums
-        .iter()
-        .any(|quorum| stations::contains(set, *quorum))
+    // a `for`: counting all sets took a third longer by `any`
+    for quorum in quorums {
+        if stations::contains(set, *quorum) {
+            return true;
+        }
+    }
+    false
 }

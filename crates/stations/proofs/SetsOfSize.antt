@@ -6,12 +6,13 @@ use mathlib.Core.Path.{◌≡◌, refl, sym, ap, ap₂, ◌∙◌}
 use Prim.Native.Nat.{ℕ, zero, suc, ◌+◌, ◌^◌, ◌<◌}
 use native.Mathlib.Omega.{arith}
 use lib.Dec.{eqb}
+use lib.Pow.{pow_pos}
 use lib.ListN.{length, get_or, length-append, length-map}
 use borrow.Author.Tests.{eqb-true, eq-eqb, ne_eqb}
 use Rattle.lists.specs.Counting.{how_many, numbers_below}
 use Rattle.lists.proofs.Counting.{numbers-length, numbers-add, numbers-same, numbers-none, numbers_hold, numbers_rise, numbers-all}
 use Rattle.std.proofs.Math.Dec.{eqb-suc-suc}
-use Rattle.stations.specs.Sets.{count_below}
+use Rattle.stations.specs.Sets.{count_below, everyone}
 use Rattle.stations.specs.Sizes.{sets_of, choose}
 use Rattle.stations.proofs.Built.{count_top, count_under}
 use Rattle.stations.proofs.Choosing.{choose-none}
@@ -86,3 +87,11 @@ module _ (n s : ℕ) where
   pub sets_all : (q : ℕ) → q < 2 ^ n → count_below q n ≡ s → (p : ℕ) × (p < length (sets_of n s)) × (get_or (sets_of n s) p 0 ≡ q)
   unfolding sets_of
   sets_all q l e = numbers-all (λ q. eqb (count_below q n) s) (2 ^ n) q l (eq-eqb (count_below q n) s e)
+
+-- of all stations the set of all alone
+pub sets_whole : (n : ℕ) → sets_of n n ≡ everyone n ∷ []
+sets_whole zero = sets_zero 0
+sets_whole (suc n) =
+    sets_split n n
+    ∙ rw (sets_none n (suc n) (omega arith), sets_whole n)
+    (ap (λ (q : ℕ). q ∷ []) (omega (arith, pow_pos n)))

@@ -1,4 +1,4 @@
--- The sets of a size, stored at the front of a buffer each with some higher stations: one, none, or first those without the last station and
+-- The sets of a size, stored at the front of a buffer each with some higher stations: one, that of all, none, or first those without the last station and
 -- behind them those with it.
 -- Assumes nothing.
 use mathlib.Core.List.{List, ◌++◌, append_assoc, map, map-map, map-id}
@@ -10,8 +10,9 @@ use lib.ListN.{length, set, take, drop, length-map, length-drop}
 use lib.Seq.{sets, sets-eq, length-sets, take_all}
 use Rattle.std.proofs.lemmas.List.{drop-drop, map-append}
 use Rattle.lists.proofs.Joined.{sets_append, sets_front}
+use Rattle.stations.specs.Sets.{everyone}
 use Rattle.stations.specs.Sizes.{sets_of, choose}
-use Rattle.stations.proofs.SetsOfSize.{sets_zero, sets_none, sets_split, sets_length}
+use Rattle.stations.proofs.SetsOfSize.{sets_zero, sets_none, sets_whole, sets_split, sets_length}
 use Rattle.tables.specs.Inner.Stored.{stored}
 
 pub choose_last : (n s : ℕ) → 1 ≤ n → 1 ≤ s → choose n s ≡ choose (n - 1) s + choose (n - 1) (s - 1)
@@ -34,6 +35,9 @@ rest_part l f = take_all (length l - f) (drop f l) (omega (arith, length-drop f 
 module _ (out : List ℕ) (above n : ℕ) where
   pub stored_one : set out 0 above ≡ stored out above n 0
   stored_one = rw (sets_zero n, add-zero above)
+
+  pub stored-all : set out 0 (above + everyone n) ≡ stored out above n n
+  stored-all = rw (sets_whole n)
 
   pub stored-none : (s : ℕ) → n < s → out ≡ stored out above n s
   stored-none s h = rw (sets_none n s h)

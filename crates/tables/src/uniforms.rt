@@ -64,6 +64,10 @@ impl Sets {
         if self.stations < self.size {
             return 0;
         }
+        if self.stations == self.size {
+            out[0] = above + stations::everyone(self.stations);
+            return 1;
+        }
         let last = self.stations - 1;
         let without = Sets {
             stations: last,

@@ -1,13 +1,16 @@
 -- `tables::uniforms::Sets::write`, which calls itself, meets its contract. The measure is the number of stations.
 -- Assumes nothing.
-use Rattle.std.proofs.Common.{◌≡◌, ℕ, ◌+◌, ◌-◌, ◌≤◌, List, ◌++◌, length, take, drop, length-drop, ap, ◌∙◌, arith, rules}
+use Rattle.std.proofs.Common.{◌≡◌, ℕ, ◌+◌, ◌-◌, ◌≤◌, List, ◌++◌, length, take, drop, length-drop, sym, ap, ◌∙◌, arith, rules}
+use Prim.Native.Nat.{min}
+use lib.ListN.{set}
 use lib.Pow.{pow_pos, pow_mono}
 use Rattle.std.proofs.lemmas.List.{append-nil, drop_all}
+use Rattle.stations.specs.Sets.{everyone, places}
 use Rattle.stations.specs.Sizes.{choose}
 use Rattle.stations.proofs.Built.{only_below}
-use Rattle.stations.proofs.Choosing.{choose-le, choose-none, choose-some}
+use Rattle.stations.proofs.Choosing.{choose-le, choose-none, choose-some, choose-all}
 use Rattle.tables.specs.Inner.Stored.{stored}
-use Rattle.tables.proofs.WritingSets.{choose_last, rest_part, stored_one, stored-none, stored_halves, above-fits}
+use Rattle.tables.proofs.WritingSets.{choose_last, rest_part, stored_one, stored-all, stored-none, stored_halves, above-fits}
 use Rattle.tables.proofs.uniforms.Sets.+write.Goals as goal
 
 pub bounds-out-0 : goal.bounds-out-0
@@ -27,6 +30,21 @@ returns-then-self t c =
     record {
       counted = omega (arith, choose-none c.args.self.stations c.args.self.size c.if-self.true);
       written = stored-none c.args.out.now c.args.above c.args.self.stations c.args.self.size c.if-self.true;
+    }
+
+pub bounds-out-0-then-self-2 : goal.bounds-out-0-then-self-2
+bounds-out-0-then-self-2 t c = omega (arith, c.requires.1, c.if-self-2.true, choose-some c.args.self.stations c.args.self.size (omega arith))
+
+pub returns-then-self-2 : goal.returns-then-self-2
+returns-then-self-2 t c =
+    let n = c.args.self.stations in
+    let all : n ≡ c.args.self.size = c.if-self-2.true in
+    let low : min n places ≡ n = omega (arith, c.args.self.few) in
+    record {
+      counted = sym (choose-all n) ∙ ap (choose n) all;
+      written = ap (λ (q : ℕ). set c.args.out.now 0 (c.args.above + q)) (c.everyone.ensures ∙ ap everyone low)
+          ∙ stored-all c.args.out.now c.args.above n
+          ∙ ap (stored c.args.out.now c.args.above n) all;
     }
 
 pub write-first-requires : goal.write-first-requires
