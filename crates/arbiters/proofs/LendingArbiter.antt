@@ -60,14 +60,14 @@ module _ (stock : Units) (s : ℕ) (m : Upward) (a : Arbiter) (kept : Kept (take
   pub lent_full : (r : Refusal) → told_of most_stations a (Err r) ≡ telling most_stations stock s (sent_up m) before → lent_of a (Err r) ≡ lending stock s m before
   unfolding lent_of
   lent_full r told =
-      ap (turned_away before) (told_14 most_stations stock s (sent_up m) a fit station r told)
-      ∙ sym (delivers ∙ delivering_full stock s (sent_up m) before (told_full most_stations stock s (sent_up m) a fit station r told))
+      ap (turned_away before) (told_14 most_stations stock s (sent_up m) before fit station a r told)
+      ∙ sym (delivers ∙ delivering_full stock s (sent_up m) before (told_full most_stations stock s (sent_up m) before fit station a r told))
 
   pub lent_done : (d : Delivery) (set : ℕ) → told_of most_stations a (Ok d) ≡ telling most_stations stock s (sent_up m) before → set ≡ granted_set (cut no_entry d.grants d.line)
       → lent_of a (Ok (record { granted = set; arbiter = d.arbiter })) ≡ lending stock s m before
   unfolding lent_of
   lent_done d set told is =
-      let t = told-done most_stations stock s (sent_up m) a fit station d told in
+      let t = told-done most_stations stock s (sent_up m) before fit station a d told in
       ap₂ (λ (g : ℕ) (x : PlainArbiter). record { refusal = 0; granted = g; arbiter = x }) (is ∙ ap granted_set t.grants) t.arbiter
       ∙ sym (delivers ∙ delivering-done stock s (sent_up m) before t.room)
 

@@ -132,45 +132,42 @@ pub record Told (n : ℕ) (stock : Units) (joined : PlainArbiter) (d : Delivery)
   pub short : d.grants ≤ line_places
   pub named : Named n d.grants d.line
 
-module _ (n : ℕ) (stock : Units) (s : ℕ) (m : Message) (a : Arbiter) (fit : servable n (arbiter_of n a) ≡ true) (station : s < n) where
-  abbrev before : PlainArbiter
-  before = arbiter_of n a
-
+module _ (n : ℕ) (stock : Units) (s : ℕ) (m : Message) (a : PlainArbiter) (fit : servable n a ≡ true) (station : s < n) where
   abbrev joined : PlainArbiter
-  joined = arrived m s before
+  joined = arrived m s a
 
   -- of the refusals only 14 is left
-  module _ (r : Refusal) (told : told_of n a (Err r) ≡ telling n stock s m before) where
-    refusal_is : number_of r ≡ (telling n stock s m before).refusal
+  module _ (before : Arbiter) (r : Refusal) (told : told_of n before (Err r) ≡ telling n stock s m a) where
+    refusal_is : number_of r ≡ (telling n stock s m a).refusal
     unfolding told_of
     refusal_is = ap (λ (t : Telling). t.refusal) told
 
     pub told_full : passes line_places joined.line ≡ true
     told_full =
         ⊎_elim (λ (t : passes line_places joined.line ≡ true). t)
-        (λ (f : passes line_places joined.line ≡ false). absurd (some_number r (refusal_is ∙ ap (λ (t : Telling). t.refusal) (telling-done n stock s m before fit station f))))
+        (λ (f : passes line_places joined.line ≡ false). absurd (some_number r (refusal_is ∙ ap (λ (t : Telling). t.refusal) (telling-done n stock s m a fit station f))))
         (cases_Bool (passes line_places joined.line))
 
     pub told_14 : number_of r ≡ line_full
-    told_14 = refusal_is ∙ ap (λ (t : Telling). t.refusal) (telling_full n stock s m before fit station told_full)
+    told_14 = refusal_is ∙ ap (λ (t : Telling). t.refusal) (telling_full n stock s m a fit station told_full)
 
-  module _ (d : Delivery) (told : told_of n a (Ok d) ≡ telling n stock s m before) where
-    no_refusal : 0 ≡ (telling n stock s m before).refusal
+  module _ (before : Arbiter) (d : Delivery) (told : told_of n before (Ok d) ≡ telling n stock s m a) where
+    no_refusal : 0 ≡ (telling n stock s m a).refusal
     unfolding told_of
     no_refusal = ap (λ (t : Telling). t.refusal) told
 
     told-room : passes line_places joined.line ≡ false
     told-room =
-        ⊎_elim (λ (t : passes line_places joined.line ≡ true). absurd (omega (arith, no_refusal ∙ ap (λ (x : Telling). x.refusal) (telling_full n stock s m before fit station t))))
+        ⊎_elim (λ (t : passes line_places joined.line ≡ true). absurd (omega (arith, no_refusal ∙ ap (λ (x : Telling). x.refusal) (telling_full n stock s m a fit station t))))
         (λ (f : passes line_places joined.line ≡ false). f)
         (cases_Bool (passes line_places joined.line))
 
     pub told-done : Told n stock joined d
     unfolding told_of
     told-done =
-        let done = told ∙ telling-done n stock s m before fit station told-room in
+        let done = told ∙ telling-done n stock s m a fit station told-room in
         let grants : cut no_entry d.grants d.line ≡ (served n stock joined).grants = ap (λ (t : Telling). t.grants) done in
-        let fits = arrived-servable n m s before station fit told-room in
+        let fits = arrived-servable n m s a station fit told-room in
         let splits = serve_splits n stock joined.granted joined.line in
         let long = sym (length-append (served n stock joined).grants (served n stock joined).arbiter.line) ∙ ap length splits in
         let many = sym (length_cut no_entry d.grants d.line) ∙ ap length grants in

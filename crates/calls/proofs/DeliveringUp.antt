@@ -78,7 +78,7 @@ module _ (r : Record) (s j : ℕ) (m : Message) (takes : Takes r s j (view r).up
   module _ (d : Delivery) (told : told_of r.n (get_or r.arbiters j no_arbiter) (Ok d) ≡ telling r.n r.stock s m (arbiter_of r.n (get_or r.arbiters j no_arbiter)))
       (grants : List Entry) (are : grants ≡ cut no_entry d.grants d.line) where
     pub facts : Told r.n r.stock joined d
-    facts = told-done r.n r.stock s m (get_or r.arbiters j no_arbiter) fit takes.took.station d told
+    facts = told-done r.n r.stock s m (arbiter_of r.n (get_or r.arbiters j no_arbiter)) fit takes.took.station (get_or r.arbiters j no_arbiter) d told
 
     pub grants-are : grants ≡ service.grants
     grants-are = are ∙ facts.grants

@@ -24,7 +24,7 @@ fn arrive(r: &mut Record, s: usize, j: usize, m: Message) -> Result<Returned, Re
     let mut down = r.down;
     match sending::send(&mut down, n, s, j, m, delivery.granted()) {
         Ok(()) => {}
-        Err(refusal) => return Err(refusal),
+        Err(refusal) => return Err(refusal), // in a lane down
     }
     lanes::take_between(&mut r.up, s, j);
     r.arbiters[j] = delivery.arbiter;

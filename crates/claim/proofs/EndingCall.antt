@@ -5,6 +5,7 @@ use mathlib.Core.List.{[], ◌∷◌}
 use mathlib.Core.Path.{refl}
 use mir.Syntax.{w64}
 use mir.Val.{Val, vint}
+use prog.Linked.{World, Holds}
 use prog.Memory.{Memory}
 use prog.Routine.{Env}
 use ghost.Model as Closed
@@ -38,7 +39,7 @@ use Rattle.calls.proofs.withdraw.Kinds as withdraw-kinds
 use Rattle.calls.proofs.withdraw.Met as withdraw-met
 use Rattle.calls.proofs.withdraw.Reads as withdraw
 use Rattle.calls.proofs.withdraw.Symbol as withdraw-code
-use Rattle.machine.proofs.Program.{program, request-wired, up-wired, down-wired, release-wired, withdraw-wired}
+use Rattle.machine.proofs.Program.{program, request-wired, up-wired, down-wired, release-wired, withdraw-wired, table, Below, linked, linked-calls}
 use Rattle.machine.proofs.ReturningCall.{Had, 𝓡₀, number_had, returns}
 use Rattle.claim.specs.Execution.{IsRecord, IsAnswer, HasCalls, arguments_of, Fit, Gives}
 use Rattle.claim.specs.Trace.{LearntOf}
@@ -49,6 +50,10 @@ record_had = makes record-type.the_type record-laws.the_plain logic₀
 -- there is a program that has the calls
 pub program-has : HasCalls program
 program-has = (request-wired, up-wired, down-wired, release-wired, withdraw-wired)
+
+-- and so has every program in which all functions of the machine's crate are, as the checker lists them, with what they name
+pub linked-has : (W : World) (here : Holds W "machine" table) (below : Below W) → HasCalls (linked W here below)
+linked-has W here below = linked-calls W here below
 
 pub call_ends : (γ : Env) → HasCalls γ → (r : Record) (w : Val) → IsRecord r w → (c : Call) → Fit (arguments_of c) → (σ : Memory)
     → ∥ ((a : Answer) × (v : Val) × (σ' : Memory) × Gives γ w c σ v σ' × IsAnswer a v × LearntOf r c a) ∥₁

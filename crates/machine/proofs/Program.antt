@@ -1,4 +1,5 @@
--- A program that has the five calls, and `blank` of the opening, with every function that they need.
+-- A program that has the five calls, and `blank` of the opening, with every function that they need; and of every program that has all functions of the
+-- crates up to this one, as the checker lists them, with what they name of the library: it has these, `inspect`, `open` and `perform`.
 -- Assumes nothing.
 use mathlib.Core.Bool.{true}
 use mathlib.Core.List.{[], ◌∷◌}
@@ -20,10 +21,14 @@ use Rattle.calls.proofs.release.Symbol as release
 use Rattle.calls.proofs.request.Symbol as request
 use Rattle.calls.proofs.up.Symbol as up
 use Rattle.calls.proofs.withdraw.Symbol as withdraw
+use Rattle.machine.proofs.TheLink as machine
+use Rattle.machine.proofs.inspect.Symbol as inspect
+use Rattle.machine.proofs.open.Symbol as open-code
 use Rattle.machine.proofs.opening.blank.Symbol as blank
 use Rattle.machine.proofs.opening.blank.TheLink as blank-link
 use Rattle.machine.proofs.opening.empty_lanes.Symbol as empty_lanes
 use Rattle.machine.proofs.opening.empty_lanes.TheLink as empty_lanes-link
+use Rattle.machine.proofs.perform.Symbol as perform
 
 -- the functions of this crate that `blank` needs, by the order of their symbols
 abbrev opening : Tree
@@ -95,3 +100,34 @@ withdraw-wired = wired withdraw.code (calls.withdraw-linked world refl below_cal
 
 pub blank-wired : Wired program blank.code
 blank-wired = wired blank.code blank-linked
+
+-- ---- every program that has all functions of this crate, as the checker lists them, and what they name of other crates and of the library
+
+abbrev pub table : Tree
+table = machine.table
+
+abbrev pub Below : World → Type 0
+Below = machine.Below
+
+module _ (W : World) (here : Holds W "machine" table) (below : Below W) where
+  -- what each name means in it
+  abbrev pub linked : Env
+  linked = tie_t (in_world W)
+
+  in_linked : (c : Code) → HasT (in_world W) true c → Wired linked c
+  in_linked = has-wired_t (in_world W) linked (tie_t-follows (in_world W)) (tie_t-threads (in_world W))
+
+  pub linked-calls : Wired linked request.code × Wired linked up.code × Wired linked down.code × Wired linked release.code × Wired linked withdraw.code
+  linked-calls =
+      let (d, (r, (q, (u, (w, rest))))) = below in
+      (in_linked request.code q, in_linked up.code u, in_linked down.code d, in_linked release.code r, in_linked withdraw.code w)
+
+  pub linked-opening : Wired linked blank.code × Wired linked inspect.code × Wired linked open-code.code
+  linked-opening = (
+    in_linked blank.code (machine.linked-machine::opening::blank W here below),
+    in_linked inspect.code (machine.linked-machine::inspect W here below),
+    in_linked open-code.code (machine.linked-machine::open W here below),
+  )
+
+  pub linked-performing : Wired linked perform.code
+  linked-performing = in_linked perform.code (machine.linked-machine::perform W here below)

@@ -85,7 +85,7 @@ said-even n k table room checked e =
     ap (λ (a : Answer). a.even) e ∙ answer-even n table (refusal n k table room)
     ∙ ap (λ (r : ℕ). cond (asked r) (even n table) 0) (sym (said-refusal n k table room checked e))
 
--- A call of `check`, with any numbers and slices, is cases_Bool by what the checker has learnt of it: its contract, and nothing else. `left` is the
+-- A call of `check`, with any numbers and slices, is known by what the checker has learnt of it: its contract, and nothing else. `left` is the
 -- scratch afterwards.
 pub check_even : (n k : ℕ) (quorums : Bor (List ℕ)) (scratch left : MutBor (List ℕ)) (checked : Result Accepted Rejected) (κs : Lfts 2)
     → check.Learnt κs (n, (k, (quorums, (scratch, tt)))) checked (n, (k, (quorums, (left, tt))))

@@ -1,11 +1,14 @@
 -- Of a program that is linked from crates: the table of the functions of this crate that `limits::kept` and `limits::up_to` need, and that in a program
--- that has the table, and what they name of other crates, both are there with all that they name. The checker makes the link of each function.
+-- that has the table, and what they name of other crates, both are there with all that they name. And the same of `check` and the table of all functions,
+-- as the checker lists them: these name the library's, which are to be there too. The checker makes the link of each function.
 -- Assumes nothing.
 use mathlib.Core.Bool.{true}
 use mathlib.Core.Path.{refl}
 use prog.Linked.{Tree, World, Holds, in_world, in_table}
 use prog.LinkedThreads.{HasT}
 use Rattle.stations.proofs.everyone.Symbol as everyone
+use Rattle.quorum.proofs.TheLink as link
+use Rattle.quorum.proofs.check.Symbol as check
 use Rattle.quorum.proofs.limits.has_bad_quorum.Symbol as has_bad_quorum-code
 use Rattle.quorum.proofs.limits.has_bad_quorum.TheLink as has_bad_quorum
 use Rattle.quorum.proofs.limits.is_out_of_place.Symbol as is_out_of_place-code
@@ -40,3 +43,7 @@ module _ (W : World) (here : Holds W "quorum" table) where
 
     pub kept-linked : HasT (in_world W) true kept.code
     kept-linked = kept-link.has (in_world W) true (in_table W "quorum" table here "quorum::limits::kept" refl) has_bad_quorum-linked up_to-linked
+
+module _ (W : World) (here : Holds W "quorum" link.table) (below : link.Below W) where
+  pub check-linked : HasT (in_world W) true check.code
+  check-linked = link.linked-quorum::check W here below

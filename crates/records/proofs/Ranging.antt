@@ -1,8 +1,8 @@
 -- In range, as tests of the slices of a record's arrays.
 -- Assumes nothing.
-use mathlib.Core.Bool.{true, false, ◌&&◌, and-false}
+use mathlib.Core.Bool.{Bool, true, false, cond, not, ◌&&◌, and-false}
 use mathlib.Core.List.{List}
-use mathlib.Core.Path.{◌≡◌, refl, ap, ◌∙◌}
+use mathlib.Core.Path.{◌≡◌, refl, sym, ap, ◌∙◌}
 use Prim.Native.Nat.{ℕ, ◌≤◌, ◌<◌}
 use native.Mathlib.Omega.{arith}
 use Rattle.std.specs.Prelude.{Result, Ok, Err}
@@ -22,8 +22,9 @@ use Rattle.refusals.proofs.Outcomes.{some_number}
 use Rattle.units.specs.Granted.{granted_of}
 use Rattle.units.specs.Units.{no_units, grant_in, asked_with}
 use Rattle.units.specs.declared.Units.{Units}
-use Rattle.plain.specs.InRange.{entry_in, arbiter_in, phase_in, in_range}
+use Rattle.plain.specs.InRange.{goes_up, goes_down, entry_in, arbiter_in, phase_in, in_range}
 use Rattle.plain.specs.Lanes.{up_places, line_places, keeps}
+use Rattle.plain.specs.declared.Message.{Message}
 use Rattle.records.specs.Inner.Ranges.{goes, lane_places, lane_in, row_in, lanes_in}
 use Rattle.records.specs.View.{no_slot, no_lane, no_row, no_entry, no_station, no_arbiter, message_of, lane_of, row_of, lanes_of, phase_of, phases_of, arbiter_of, arbiters_of, table_of, view}
 use Rattle.records.specs.declared.Arbiter.{Arbiter}
@@ -39,6 +40,18 @@ use Rattle.records.proofs.Viewing.{lane-length}
 few : (direction : Direction) → lane_places direction ≤ up_places
 few (Up _) = omega arith
 few Down = omega arith
+
+-- messages that only go up, and that only go down
+abbrev heading : Bool → Units → Direction
+heading upward stock = cond upward (Up stock) Down
+
+pub only-up : (m : Message) (upward : Bool) (stock : Units) → goes_up stock m ≡ true → goes_down m ≡ false → upward ≡ goes (heading upward stock) m
+only-up m true stock u d = sym u
+only-up m false stock u d = sym d
+
+pub only-down : (m : Message) (upward : Bool) (stock : Units) → goes_up stock m ≡ false → goes_down m ≡ true → not upward ≡ goes (heading upward stock) m
+only-down m true stock u d = sym u
+only-down m false stock u d = sym d
 
 -- a lane that is too long, and one that is not
 module _ (direction : Direction) (l : Lane) where

@@ -1,15 +1,34 @@
 -- The number of stations of a cube, a^(k + 1), as the code works it out: by a power that is none where it does not fit its type.
 -- Assumes nothing.
-use Rattle.std.proofs.Common.{◌≡◌, ℕ, ◌+◌, ◌^◌, ◌≤◌, ◌<◌, zero, suc, true, false, refl, sym, ap, ◌∙◌, arith, add-one}
+use Rattle.std.proofs.Common.{◌≡◌, ℕ, ◌+◌, ◌*◌, ◌/◌, ◌^◌, ◌≤◌, ◌<◌, zero, suc, true, false, refl, sym, ap, ◌∙◌, arith, add-one}
 use Rattle.std.specs.Prelude.{Option, Some, None, not, unwrap_or}
 use Rattle.std.specs.Option.{SomeIff}
 use mathlib.Core.Logic.{by_cases}
 use native.Mathlib.Decide.{dec_le}
-use native.Mathlib.Nat.{pow-suc, one-le-pow}
+use native.Mathlib.Nat.{pow-zero, pow-suc, pow-le-pow_right, one-le-pow, div-lt_iff_lt-mul}
 use borrow.Author.Tests.{le-leb, lt-leb, le-ltb, lt-ltb, ne_eqb}
 use Rattle.lists.proofs.Tests.{clash}
 use Rattle.quorum.specs.Limits.{most_stations, up_to}
 use Rattle.tables.specs.Cube.{cube_stations, no_cube}
+
+-- 0 is 0, and 1 is 1, to any power but 0
+one_power : (k : ℕ) → 1 ^ k ≡ 1
+one_power zero = pow-zero 1
+one_power (suc k) = pow-suc 1 k ∙ omega (arith, one_power k)
+
+pub small_power : (a k : ℕ) → a < 2 → a ≡ cube_stations a k
+small_power zero k h = rw (add-one k) (sym (pow-suc 0 k ∙ omega arith))
+small_power (suc zero) k h = sym (one_power (k + 1))
+small_power (suc (suc a)) k h = absurd (omega arith)
+
+-- one factor more, and one that makes it too many
+pub next_power : (a i n : ℕ) → n ≡ a ^ i → n * a ≡ a ^ (i + 1)
+next_power a i n e = rw (add-one i) (ap (λ (x : ℕ). x * a) e ∙ sym (pow-suc a i))
+
+pub power_large : (a k i n : ℕ) → 0 < a → i ≤ k → n ≡ a ^ i → most_stations / a < n → most_stations < cube_stations a k
+power_large a k i n some h e l =
+    let over : most_stations < n * a = (div-lt_iff_lt-mul {x = most_stations} {y = n} some).0 l in
+    omega (arith, next_power a i n e, pow-le-pow_right some {i = i + 1} {j = k + 1} (omega arith))
 
 -- there is no cube exactly where the stations are not 1 to 12
 pub no_cube-up_to : (a k : ℕ) → no_cube a k ≡ not (up_to most_stations (cube_stations a k))

@@ -1,5 +1,5 @@
--- Of a program that is linked from crates: the table of the functions of this crate that the calls need, and that in a program that has the table, and
--- what they name of other crates, each is there with all that it names. The checker makes the link of each function.
+-- Of a program that is linked from crates: the table of this crate's functions, but for those that derives make, which name the library's, and that in a
+-- program that has the table, and what they name of other crates, each is there with all that it names. The checker makes the link of each function.
 -- Assumes nothing.
 use mathlib.Core.Bool.{true}
 use mathlib.Core.Path.{refl}
@@ -16,8 +16,12 @@ use Rattle.units.proofs.grant_in.Symbol as grant_in
 use Rattle.units.proofs.grant_in.TheLink as grant_in-link
 use Rattle.units.proofs.no_units.Symbol as no_units
 use Rattle.units.proofs.no_units.TheLink as no_units-link
+use Rattle.units.proofs.number_of.Symbol as number_of
+use Rattle.units.proofs.number_of.TheLink as number_of-link
 use Rattle.units.proofs.request_in.Symbol as request_in
 use Rattle.units.proofs.request_in.TheLink as request_in-link
+use Rattle.units.proofs.stock_of.Symbol as stock_of
+use Rattle.units.proofs.stock_of.TheLink as stock_of-link
 use Rattle.units.proofs.units_of.Symbol as units_of
 use Rattle.units.proofs.units_of.TheLink as units_of-link
 
@@ -29,8 +33,10 @@ table =
     (Tree.fork Tree.leaf "units::fitting::smaller" smaller-link.entry
     (Tree.fork Tree.leaf "units::grant_in" grant_in-link.entry
     (Tree.fork Tree.leaf "units::no_units" no_units-link.entry
+    (Tree.fork Tree.leaf "units::number_of" number_of-link.entry
     (Tree.fork Tree.leaf "units::request_in" request_in-link.entry
-    (Tree.fork Tree.leaf "units::units_of" units_of-link.entry Tree.leaf))))))
+    (Tree.fork Tree.leaf "units::stock_of" stock_of-link.entry
+    (Tree.fork Tree.leaf "units::units_of" units_of-link.entry Tree.leaf))))))))
 
 -- what they name of other crates is there
 abbrev pub Below : World → Type 0
@@ -54,6 +60,12 @@ module _ (W : World) (here : Holds W "units" table) where
 
   pub units_of-linked : HasT (in_world W) true units_of.code
   units_of-linked = units_of-link.has (in_world W) true (in_table W "units" table here "units::units_of" refl) no_units-linked
+
+  pub number_of-linked : HasT (in_world W) true number_of.code
+  number_of-linked = number_of-link.has (in_world W) true (in_table W "units" table here "units::number_of" refl)
+
+  pub stock_of-linked : HasT (in_world W) true stock_of.code
+  stock_of-linked = stock_of-link.has (in_world W) true (in_table W "units" table here "units::stock_of" refl) units_of-linked
 
   pub request_in-linked : Below W → HasT (in_world W) true request_in.code
   request_in-linked below = request_in-link.has (in_world W) true (in_table W "units" table here "units::request_in" refl) below

@@ -6,7 +6,7 @@ use lib.ListN.{get_or}
 use Rattle.std.proofs.lemmas.List.{set-get_or}
 use Rattle.plain.specs.Answer.{Returned, refused, done}
 use Rattle.arbiters.proofs.TellingArbiter.{told_full, told_14}
-use Rattle.records.specs.View.{view, no_arbiter}
+use Rattle.records.specs.View.{view, no_arbiter, arbiter_of}
 use Rattle.records.proofs.Storing.{store_up, store_arbiter, store_down}
 use Rattle.calls.proofs.DeliveringUp.{fit, line_full_lem, lane-down_full, all-stored, facts, grants-are, sends}
 use Rattle.calls.proofs.SendingMessage.{had_room, no_room}
@@ -20,8 +20,8 @@ returns-in-Err-clause-answer c =
     let t = c.requires in
     let a = get_or r.arbiters c.args.j no_arbiter in
     let f = fit r c.args.s c.args.j c.args.m t in
-    let full = told_full r.n r.stock c.args.s c.args.m a f t.took.station x c.in-Err.ensures in
-    let number = told_14 r.n r.stock c.args.s c.args.m a f t.took.station x c.in-Err.ensures in
+    let full = told_full r.n r.stock c.args.s c.args.m (arbiter_of r.n a) f t.took.station a x c.in-Err.ensures in
+    let number = told_14 r.n r.stock c.args.s c.args.m (arbiter_of r.n a) f t.took.station a x c.in-Err.ensures in
     rw (set-get_or r.arbiters c.args.j no_arbiter) (ap (refused (view r)) number ∙ sym (line_full_lem r c.args.s c.args.j c.args.m t full))
 
 pub send-requires : goal.send-requires
