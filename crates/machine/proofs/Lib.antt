@@ -1,4 +1,5 @@
 pub mod OpeningRecord
+pub mod CheckingStock
 pub mod PerformingCalls
 pub mod GoingOn
 pub mod PerformingList

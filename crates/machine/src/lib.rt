@@ -54,6 +54,7 @@ pub struct Opened {
 
 // The whole answer of the check, and a fresh record of the table, or on a refusal the empty record. The scratch is left as the check leaves
 // it.
+#[tactic(auto, using(crate::proofs::CheckingStock::checked))]
 pub fn inspect(n: usize, k: usize, quorums: &[u16], scratch: &mut [u8]) -> Inspected
     ensures checked { said result.checked ≡ answer n (asked_with_rule (stock_of_rule k)) quorums.now (length scratch.old) }
     ensures state { view result.«record» ≡ (opening n (stock_of_rule k) quorums.now (length scratch.old)).state }

@@ -1,16 +1,14 @@
 -- `machine::inspect` meets its contract. The check first; what it refuses gets the empty record.
 -- Assumes nothing.
-use mathlib.Core.Bool.{true, false}
+use mathlib.Core.Bool.{true}
 use mathlib.Core.List.{List}
-use mathlib.Core.Logic.{⊎_elim}
 use mathlib.Core.Path.{◌≡◌, sym, ap, ◌∙◌}
 use Prim.Native.Nat.{ℕ}
 use lib.ListN.{length}
 use Rattle.std.specs.Prelude.{Result, Ok}
 use borrow.Author.Tests.{le-leb}
 use Rattle.lists.proofs.Tests.{and_both}
-use Rattle.std.proofs.lemmas.Bool.{cases_Bool}
-use Rattle.quorum.specs.Answer.{said, answer_to, answer}
+use Rattle.quorum.specs.Answer.{said, answer}
 use Rattle.quorum.specs.Limits.{most_units, up_to}
 use Rattle.quorum.specs.Refusal.{refusal}
 use Rattle.quorum.specs.declared.Accepted.{Accepted}
@@ -19,44 +17,26 @@ use Rattle.quorum.proofs.Promises.{passed_limits, Limits, said-refusal}
 use Rattle.units.specs.Units.{asked_with, stock_of, storable}
 use Rattle.units.specs.declared.Units.{Units}
 use Rattle.units.proofs.Numbers.{asked-stored, stock-stored}
+use Rattle.machine.proofs.CheckingStock.{checked}
 use Rattle.machine.proofs.OpeningRecord.{rejected-number, some_rejection, opening-refused, opening-fresh}
 use Rattle.machine.proofs.inspect.Goals as goal
 use Rattle.machine.proofs.inspect.Goals.{After-check-checked}
 
--- more than any stock has is refused as none are
-refused_alike : (n x y : ℕ) (table : List ℕ) (room : ℕ) → up_to most_units x ≡ false → up_to most_units y ≡ false → refusal n x table room ≡ refusal n y table room
-unfolding refusal
-refused_alike n x y table room f g = rw (f, g)
-
-asked : (n k : ℕ) (table : List ℕ) (room : ℕ) → answer n (asked_with (storable stock_of k)) table room ≡ answer n (asked_with (stock_of k)) table room
-unfolding answer
-asked n k table room =
-    ⊎_elim {C = answer n (asked_with (storable stock_of k)) table room ≡ answer n (asked_with (stock_of k)) table room} (λ t. ap (λ (u : Units). answer n (asked_with u) table room) (stock-stored k t))
-    (λ f. ap (answer_to n table) (refused_alike n (asked_with (storable stock_of k)) (asked_with (stock_of k)) table room f (sym (asked-stored k) ∙ f)))
-    (cases_Bool (up_to most_units (asked_with (storable stock_of k))))
-
 -- what the check answers, asked with the units of the stock that the number k stands for
 module _ (n k : ℕ) (table : List ℕ) (room : ℕ) (stock : Units) (stored : stock ≡ storable stock_of k) (units : ℕ) (with_stock : units ≡ asked_with stock) (found : Result Accepted Rejected)
     (answered : said found ≡ answer n units table room) where
-  -- the check is asked with the stock's k
-  checked : said found ≡ answer n (asked_with (stock_of k)) table room
-  checked = answered ∙ ap (λ (x : ℕ). answer n x table room) (with_stock ∙ ap asked_with stored) ∙ asked n k table room
-
   -- which is the caller's, where nothing is refused
   is_stock : up_to most_units (asked_with (stock_of k)) ≡ true → stock ≡ stock_of k
   is_stock kept = stored ∙ stock-stored k (asked-stored k ∙ kept)
 
   -- the refusal that it gives
   refused : (said found).refusal ≡ refusal n (asked_with (stock_of k)) table room
-  refused = said-refusal n (asked_with (stock_of k)) table room found checked
+  refused = said-refusal n (asked_with (stock_of k)) table room found (checked n k table room stock units found stored with_stock answered)
 
 -- the check's whole answer, and the refusal in it
 module _ (c : After-check-checked) where
   abbrev room : ℕ
   room = length c.args.scratch.now
-
-  answered : said c.check-checked.result ≡ answer c.args.n (asked_with (stock_of c.args.k)) c.args.quorums.now room
-  answered = checked c.args.n c.args.k c.args.quorums.now room _ c.stock_of-stock.ensures _ c.asked_with.ensures c.check-checked.result c.check-checked.ensures.answered
 
   turned : (said c.check-checked.result).refusal ≡ refusal c.args.n (asked_with (stock_of c.args.k)) c.args.quorums.now room
   turned = refused c.args.n c.args.k c.args.quorums.now room _ c.stock_of-stock.ensures _ c.asked_with.ensures c.check-checked.result c.check-checked.ensures.answered
@@ -82,17 +62,11 @@ fresh-record-requires c =
     let limits = kept (goal.at.fresh-record-requires c).After-check-checked c.in-Ok.field-0 c.in-Ok.is in
     (limits.stations.1, limits.quorums.1)
 
-pub returns-in-Ok-clause-checked : goal.returns-in-Ok-clause-checked
-returns-in-Ok-clause-checked c = answered (goal.at.returns-in-Ok-clause-checked c).After-check-checked
-
 pub returns-in-Ok-clause-state : goal.returns-in-Ok-clause-state
 returns-in-Ok-clause-state c =
     let x = c.args in
     let here = (goal.at.returns-in-Ok-clause-state c).After-check-checked in
     opening-fresh x.n (stock_of x.k) x.quorums.now (length x.scratch.now) _ (turned here) _ (none here c.in-Ok.field-0 c.in-Ok.is) (rw (same here c.in-Ok.field-0 c.in-Ok.is) at c.fresh-record.ensures)
-
-pub returns-in-Err-clause-checked : goal.returns-in-Err-clause-checked
-returns-in-Err-clause-checked c = answered (goal.at.returns-in-Err-clause-checked c).After-check-checked
 
 pub returns-in-Err-clause-state : goal.returns-in-Err-clause-state
 returns-in-Err-clause-state c =
