@@ -10,3 +10,4 @@ pub mod Classes
 pub mod Arrays
 pub mod Broken
 pub mod Slices
+pub mod Linking

@@ -1,18 +1,22 @@
--- A program that has the five calls, and `blank` of the opening, with every function that they need; and of every program that has all functions of the
--- crates up to this one, as the checker lists them, with what they name of the library: it has these, `inspect`, `open` and `perform`.
+-- A program that has every function of the crates up to this one, as the checker lists them or, of those in front, links them, and so the five calls, and
+-- `blank` of the opening, each with all that it names; and of every program that has, besides, what they name of the library: it has these, `inspect`,
+-- `open` and `perform`.
 -- Assumes nothing.
 use mathlib.Core.Bool.{true}
-use mathlib.Core.List.{[], ◌∷◌}
-use mathlib.Core.Path.{refl}
+use mathlib.Core.List.{List, [], ◌∷◌}
+use mathlib.Core.Path.{◌≡◌, refl}
 use lib.Chars.{codes}
 use mir.Syntax.{Symbol}
-use prog.Linked.{Entry, Tree, World, Holds, in_table, in_world}
+use prog.Linked.{Entry, Tree, World, Holds, crate_of, in_table, in_world}
 use prog.LinkedThreads.{HasT, has-wired_t, tie_t, tie_t-follows, tie_t-threads}
 use prog.Routine.{Env}
 use prog.Wired.{Code, Wired}
+use Rattle.lists.proofs.Linking.{Listed, in_front, linked-listed}
+use Rattle.refusals.proofs.Links as refusals
 use Rattle.stations.proofs.Links as stations
 use Rattle.quorum.proofs.Links as quorum
 use Rattle.units.proofs.Links as units
+use Rattle.plain.proofs.Links as plain
 use Rattle.records.proofs.Links as records
 use Rattle.arbiters.proofs.Links as arbiters
 use Rattle.calls.proofs.Links as calls
@@ -30,14 +34,23 @@ use Rattle.machine.proofs.opening.empty_lanes.Symbol as empty_lanes
 use Rattle.machine.proofs.opening.empty_lanes.TheLink as empty_lanes-link
 use Rattle.machine.proofs.perform.Symbol as perform
 
--- the functions of this crate that `blank` needs, by the order of their symbols
+-- all functions of this crate, as the checker lists them
+abbrev pub table : Tree
+table = machine.table
+
+-- `blank` and what it needs, by the order of their symbols
+abbrev front : List (Symbol × Entry)
+front = ("machine::opening::blank", blank-link.entry) ∷ ("machine::opening::empty_lanes", empty_lanes-link.entry) ∷ []
+
+-- all functions of this crate, with these in front
 abbrev opening : Tree
-opening = Tree.fork Tree.leaf "machine::opening::blank" blank-link.entry (Tree.fork Tree.leaf "machine::opening::empty_lanes" empty_lanes-link.entry Tree.leaf)
+opening = in_front front table
 
 abbrev world : World
 world =
-    (codes "stations", stations.table) ∷ (codes "quorum", quorum.table) ∷ (codes "units", units.table) ∷ (codes "records", records.table)
-    ∷ (codes "arbiters", arbiters.table) ∷ (codes "calls", calls.table) ∷ (codes "machine", opening) ∷ []
+    (codes "refusals", refusals.table) ∷ (codes "stations", stations.table) ∷ (codes "quorum", quorum.table) ∷ (codes "units", units.table)
+    ∷ (codes "plain", plain.table) ∷ (codes "records", records.table) ∷ (codes "arbiters", arbiters.table) ∷ (codes "calls", calls.table)
+    ∷ (codes "machine", opening) ∷ []
 
 abbrev look : Symbol → Entry
 look = in_world world
@@ -47,33 +60,48 @@ abbrev ◌&◌ : {A B : Type 0} → A → B → A × B
 a & b = (a, b)
 
 infixr 20 ◌&◌
+-- under each name of a crate the program has what the checker lists, or the entry in front
+abbrev Lists : Symbol → List (Symbol × Entry) → Tree → Type 0
+Lists c front listed = (x : Symbol) → crate_of x ≡ codes c → Listed front listed x (look x)
+
+pub all-listed :
+    Lists "refusals" [] refusals.table × (Lists "stations" [] stations.table × (Lists "quorum" quorum.front quorum.listed
+    × (Lists "units" units.front units.listed × (Lists "plain" [] plain.table × (Lists "records" [] records.table
+    × (Lists "arbiters" arbiters.front arbiters.listed × (Lists "calls" [] calls.table × Lists "machine" front table)))))))
+all-listed =
+    linked-listed world "refusals" [] refusals.table refl & linked-listed world "stations" [] stations.table refl
+    & linked-listed world "quorum" quorum.front quorum.listed refl & linked-listed world "units" units.front units.listed refl
+    & linked-listed world "plain" [] plain.table refl & linked-listed world "records" [] records.table refl
+    & linked-listed world "arbiters" arbiters.front arbiters.listed refl & linked-listed world "calls" [] calls.table refl
+    & linked-listed world "machine" front table refl
+
 -- what the functions of a crate name of other crates
 below_quorum : quorum.Below world
 below_quorum = stations.everyone-linked world refl tt
 
 below_units : units.Below world
-below_units = quorum.up_to-linked world refl
+below_units = quorum.up_to-linked world quorum.listed refl
 
 below_records : records.Below world
 below_records =
-    quorum.kept-linked world refl below_quorum & units.asked_with-linked world refl
-    & units.grant_in-linked world refl & units.request_in-linked world refl below_units & tt
+    quorum.kept-linked world quorum.listed refl below_quorum & units.asked_with-linked world units.listed refl
+    & units.grant_in-linked world units.listed refl & units.request_in-linked world units.listed refl below_units & tt
 
 below_arbiters : arbiters.Below world
-below_arbiters = (units.fits-linked world refl, units.no_units-linked world refl)
+below_arbiters = (units.fits-linked world units.listed refl, units.no_units-linked world units.listed refl)
 
 below_calls : calls.Below world
 below_calls =
-    arbiters.granted-linked world refl below_arbiters & arbiters.deliver-linked world refl below_arbiters
+    arbiters.granted-linked world arbiters.listed refl below_arbiters & arbiters.deliver-linked world arbiters.listed refl below_arbiters
     & records.in_range-linked world refl below_records & stations.common-linked world refl tt
     & stations.everyone-linked world refl tt & stations.has-linked world refl tt & stations.lowest_from-linked world refl tt
-    & units.no_units-linked world refl & units.request_in-linked world refl below_units & units.units_of-linked world refl & tt
+    & units.no_units-linked world units.listed refl & units.request_in-linked world units.listed refl below_units & units.units_of-linked world units.listed refl & tt
 
 empty_lanes-linked : HasT look true empty_lanes.code
 empty_lanes-linked = empty_lanes-link.has look true (in_table world "machine" opening refl "machine::opening::empty_lanes" refl)
 
 blank-linked : HasT look true blank.code
-blank-linked = blank-link.has look true (in_table world "machine" opening refl "machine::opening::blank" refl) empty_lanes-linked (units.no_units-linked world refl)
+blank-linked = blank-link.has look true (in_table world "machine" opening refl "machine::opening::blank" refl) empty_lanes-linked (units.no_units-linked world units.listed refl)
 
 -- what each name means in the program
 unfoldable pub program : Env
@@ -102,9 +130,6 @@ pub blank-wired : Wired program blank.code
 blank-wired = wired blank.code blank-linked
 
 -- ---- every program that has all functions of this crate, as the checker lists them, and what they name of other crates and of the library
-
-abbrev pub table : Tree
-table = machine.table
 
 abbrev pub Below : World → Type 0
 Below = machine.Below

@@ -49,3 +49,4 @@ pub mod RangeExamples
 pub mod WithdrawExamples
 pub mod WithdrawHandMade
 pub mod SilenceExamples
+pub mod Links
