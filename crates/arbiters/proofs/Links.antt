@@ -4,9 +4,10 @@
 -- Assumes nothing.
 use mathlib.Core.Bool.{true}
 use mathlib.Core.List.{List, [], ◌∷◌}
-use mathlib.Core.Path.{refl}
+use mathlib.Core.Path.{◌≡◌, refl}
+use lib.Chars.{codes}
 use mir.Syntax.{Symbol}
-use prog.Linked.{Entry, Tree, World, Holds, in_world, in_table}
+use prog.Linked.{Entry, Tree, World, Holds, crate_of, in_table, in_tree, in_world}
 use prog.LinkedThreads.{HasT}
 use Rattle.lists.proofs.Linking.{in_front}
 use Rattle.units.proofs.fits.Symbol as fits
@@ -59,32 +60,35 @@ abbrev pub Below : World → Type 0
 Below W = HasT (in_world W) true fits.code × HasT (in_world W) true no_units.code
 
 module _ (W : World) (t : Tree) (here : Holds W "arbiters" (in_front front t)) (below : Below W) where
+  found : (x : Symbol) → crate_of x ≡ codes "arbiters" → in_world W x ≡ in_tree (in_front front t) x
+  found = in_table W "arbiters" (in_front front t) here
+
   forget-linked : HasT (in_world W) true forget-code.code
-  forget-linked = forget.has (in_world W) true (in_table W "arbiters" (in_front front t) here "arbiters::dropping::forget" refl) below.1
+  forget-linked = forget.has (in_world W) true (found "arbiters::dropping::forget" refl) below.1
 
   arrive-linked : HasT (in_world W) true arrive-code.code
-  arrive-linked = arrive.has (in_world W) true (in_table W "arbiters" (in_front front t) here "arbiters::delivery::arrive" refl) forget-linked below.1
+  arrive-linked = arrive.has (in_world W) true (found "arbiters::delivery::arrive" refl) forget-linked below.1
 
   is_of-linked : HasT (in_world W) true is_of-code.code
-  is_of-linked = is_of.has (in_world W) true (in_table W "arbiters" (in_front front t) here "arbiters::delivery::is_of" refl)
+  is_of-linked = is_of.has (in_world W) true (found "arbiters::delivery::is_of" refl)
 
   all_of-linked : HasT (in_world W) true all_of-code.code
-  all_of-linked = all_of.has (in_world W) true (in_table W "arbiters" (in_front front t) here "arbiters::delivery::all_of" refl) is_of-linked
+  all_of-linked = all_of.has (in_world W) true (found "arbiters::delivery::all_of" refl) is_of-linked
 
   is_servable-linked : HasT (in_world W) true is_servable-code.code
-  is_servable-linked = is_servable.has (in_world W) true (in_table W "arbiters" (in_front front t) here "arbiters::delivery::is_servable" refl) all_of-linked
+  is_servable-linked = is_servable.has (in_world W) true (found "arbiters::delivery::is_servable" refl) all_of-linked
 
   grant-linked : HasT (in_world W) true grant-code.code
-  grant-linked = grant.has (in_world W) true (in_table W "arbiters" (in_front front t) here "arbiters::service::grant" refl) below.0
+  grant-linked = grant.has (in_world W) true (found "arbiters::service::grant" refl) below.0
 
   shifted-linked : HasT (in_world W) true shifted-code.code
-  shifted-linked = shifted.has (in_world W) true (in_table W "arbiters" (in_front front t) here "arbiters::service::shifted" refl)
+  shifted-linked = shifted.has (in_world W) true (found "arbiters::service::shifted" refl)
 
   serve-linked : HasT (in_world W) true serve-code.code
-  serve-linked = serve.has (in_world W) true (in_table W "arbiters" (in_front front t) here "arbiters::service::serve" refl) grant-linked shifted-linked
+  serve-linked = serve.has (in_world W) true (found "arbiters::service::serve" refl) grant-linked shifted-linked
 
   pub deliver-linked : HasT (in_world W) true deliver.code
-  deliver-linked = deliver-link.has (in_world W) true (in_table W "arbiters" (in_front front t) here "arbiters::delivery::deliver" refl) arrive-linked is_servable-linked serve-linked
+  deliver-linked = deliver-link.has (in_world W) true (found "arbiters::delivery::deliver" refl) arrive-linked is_servable-linked serve-linked
 
   pub granted-linked : HasT (in_world W) true granted.code
-  granted-linked = granted-link.has (in_world W) true (in_table W "arbiters" (in_front front t) here "arbiters::answers::Delivery::granted" refl)
+  granted-linked = granted-link.has (in_world W) true (found "arbiters::answers::Delivery::granted" refl)

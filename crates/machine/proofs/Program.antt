@@ -7,7 +7,7 @@ use mathlib.Core.List.{List, [], ◌∷◌}
 use mathlib.Core.Path.{◌≡◌, refl}
 use lib.Chars.{codes}
 use mir.Syntax.{Symbol}
-use prog.Linked.{Entry, Tree, World, Holds, crate_of, in_table, in_world}
+use prog.Linked.{Entry, Tree, World, Holds, crate_of, in_table, in_tree, in_world}
 use prog.LinkedThreads.{HasT, has-wired_t, tie_t, tie_t-follows, tie_t-threads}
 use prog.Routine.{Env}
 use prog.Wired.{Code, Wired}
@@ -97,11 +97,14 @@ below_calls =
     & stations.everyone-linked world refl tt & stations.has-linked world refl tt & stations.lowest_from-linked world refl tt
     & units.no_units-linked world units.listed refl & units.request_in-linked world units.listed refl below_units & units.units_of-linked world units.listed refl & tt
 
+found : (x : Symbol) → crate_of x ≡ codes "machine" → look x ≡ in_tree opening x
+found = in_table world "machine" opening refl
+
 empty_lanes-linked : HasT look true empty_lanes.code
-empty_lanes-linked = empty_lanes-link.has look true (in_table world "machine" opening refl "machine::opening::empty_lanes" refl)
+empty_lanes-linked = empty_lanes-link.has look true (found "machine::opening::empty_lanes" refl)
 
 blank-linked : HasT look true blank.code
-blank-linked = blank-link.has look true (in_table world "machine" opening refl "machine::opening::blank" refl) empty_lanes-linked (units.no_units-linked world units.listed refl)
+blank-linked = blank-link.has look true (found "machine::opening::blank" refl) empty_lanes-linked (units.no_units-linked world units.listed refl)
 
 -- what each name means in the program
 unfoldable pub program : Env

@@ -4,9 +4,10 @@
 -- Assumes nothing.
 use mathlib.Core.Bool.{true}
 use mathlib.Core.List.{List, [], ◌∷◌}
-use mathlib.Core.Path.{refl}
+use mathlib.Core.Path.{◌≡◌, refl}
+use lib.Chars.{codes}
 use mir.Syntax.{Symbol}
-use prog.Linked.{Entry, Tree, World, Holds, in_world, in_table}
+use prog.Linked.{Entry, Tree, World, Holds, crate_of, in_table, in_tree, in_world}
 use prog.LinkedThreads.{HasT}
 use Rattle.lists.proofs.Linking.{in_front}
 use Rattle.stations.proofs.everyone.Symbol as everyone
@@ -41,18 +42,21 @@ abbrev pub Below : World → Type 0
 Below W = HasT (in_world W) true everyone.code
 
 module _ (W : World) (t : Tree) (here : Holds W "quorum" (in_front front t)) where
+  found : (x : Symbol) → crate_of x ≡ codes "quorum" → in_world W x ≡ in_tree (in_front front t) x
+  found = in_table W "quorum" (in_front front t) here
+
   pub up_to-linked : HasT (in_world W) true up_to.code
-  up_to-linked = up_to-link.has (in_world W) true (in_table W "quorum" (in_front front t) here "quorum::limits::up_to" refl)
+  up_to-linked = up_to-link.has (in_world W) true (found "quorum::limits::up_to" refl)
 
   module _ (below : Below W) where
     is_out_of_place-linked : HasT (in_world W) true is_out_of_place-code.code
-    is_out_of_place-linked = is_out_of_place.has (in_world W) true (in_table W "quorum" (in_front front t) here "quorum::limits::is_out_of_place" refl) below
+    is_out_of_place-linked = is_out_of_place.has (in_world W) true (found "quorum::limits::is_out_of_place" refl) below
 
     has_bad_quorum-linked : HasT (in_world W) true has_bad_quorum-code.code
-    has_bad_quorum-linked = has_bad_quorum.has (in_world W) true (in_table W "quorum" (in_front front t) here "quorum::limits::has_bad_quorum" refl) is_out_of_place-linked
+    has_bad_quorum-linked = has_bad_quorum.has (in_world W) true (found "quorum::limits::has_bad_quorum" refl) is_out_of_place-linked
 
     pub kept-linked : HasT (in_world W) true kept.code
-    kept-linked = kept-link.has (in_world W) true (in_table W "quorum" (in_front front t) here "quorum::limits::kept" refl) has_bad_quorum-linked up_to-linked
+    kept-linked = kept-link.has (in_world W) true (found "quorum::limits::kept" refl) has_bad_quorum-linked up_to-linked
 
 module _ (W : World) (here : Holds W "quorum" listed) (below : link.Below W) where
   pub check-linked : HasT (in_world W) true check.code

@@ -4,9 +4,10 @@
 -- Assumes nothing.
 use mathlib.Core.Bool.{true}
 use mathlib.Core.List.{List, [], ◌∷◌}
-use mathlib.Core.Path.{refl}
+use mathlib.Core.Path.{◌≡◌, refl}
+use lib.Chars.{codes}
 use mir.Syntax.{Symbol}
-use prog.Linked.{Entry, Tree, World, Holds, in_world, in_table}
+use prog.Linked.{Entry, Tree, World, Holds, crate_of, in_table, in_tree, in_world}
 use prog.LinkedThreads.{HasT}
 use Rattle.lists.proofs.Linking.{in_front}
 use Rattle.quorum.proofs.limits.up_to.Symbol as up_to
@@ -55,29 +56,32 @@ abbrev pub Below : World → Type 0
 Below W = HasT (in_world W) true up_to.code
 
 module _ (W : World) (t : Tree) (here : Holds W "units" (in_front front t)) where
+  found : (x : Symbol) → crate_of x ≡ codes "units" → in_world W x ≡ in_tree (in_front front t) x
+  found = in_table W "units" (in_front front t) here
+
   pub asked_with-linked : HasT (in_world W) true asked_with.code
-  asked_with-linked = asked_with-link.has (in_world W) true (in_table W "units" (in_front front t) here "units::asked_with" refl)
+  asked_with-linked = asked_with-link.has (in_world W) true (found "units::asked_with" refl)
 
   smaller-linked : HasT (in_world W) true smaller.code
-  smaller-linked = smaller-link.has (in_world W) true (in_table W "units" (in_front front t) here "units::fitting::smaller" refl)
+  smaller-linked = smaller-link.has (in_world W) true (found "units::fitting::smaller" refl)
 
   pub fits-linked : HasT (in_world W) true fits.code
-  fits-linked = fits-link.has (in_world W) true (in_table W "units" (in_front front t) here "units::fitting::fits" refl) smaller-linked
+  fits-linked = fits-link.has (in_world W) true (found "units::fitting::fits" refl) smaller-linked
 
   pub grant_in-linked : HasT (in_world W) true grant_in.code
-  grant_in-linked = grant_in-link.has (in_world W) true (in_table W "units" (in_front front t) here "units::grant_in" refl)
+  grant_in-linked = grant_in-link.has (in_world W) true (found "units::grant_in" refl)
 
   pub no_units-linked : HasT (in_world W) true no_units.code
-  no_units-linked = no_units-link.has (in_world W) true (in_table W "units" (in_front front t) here "units::no_units" refl)
+  no_units-linked = no_units-link.has (in_world W) true (found "units::no_units" refl)
 
   pub units_of-linked : HasT (in_world W) true units_of.code
-  units_of-linked = units_of-link.has (in_world W) true (in_table W "units" (in_front front t) here "units::units_of" refl) no_units-linked
+  units_of-linked = units_of-link.has (in_world W) true (found "units::units_of" refl) no_units-linked
 
   pub number_of-linked : HasT (in_world W) true number_of.code
-  number_of-linked = number_of-link.has (in_world W) true (in_table W "units" (in_front front t) here "units::number_of" refl)
+  number_of-linked = number_of-link.has (in_world W) true (found "units::number_of" refl)
 
   pub stock_of-linked : HasT (in_world W) true stock_of.code
-  stock_of-linked = stock_of-link.has (in_world W) true (in_table W "units" (in_front front t) here "units::stock_of" refl) units_of-linked
+  stock_of-linked = stock_of-link.has (in_world W) true (found "units::stock_of" refl) units_of-linked
 
   pub request_in-linked : Below W → HasT (in_world W) true request_in.code
-  request_in-linked below = request_in-link.has (in_world W) true (in_table W "units" (in_front front t) here "units::request_in" refl) below
+  request_in-linked below = request_in-link.has (in_world W) true (found "units::request_in" refl) below
